@@ -1,0 +1,100 @@
+ghost use Rattle.std.specs.Prelude.{◌≡◌, ◌≢◌, ◌-◌, ◌<◌, ◌≤◌, Some, [], length, min, is_err, IfOk, OnOk, OnErr};
+ghost use Rattle.link_ends.specs.Counts.{Rose, one_more};
+ghost use Rattle.link_ends.specs.Sink.{Takes};
+ghost use Rattle.link_ends.specs.Memory.{is_refused, stuck_of};
+
+use crate::marks::Marks;
+use crate::octets::NoMemory;
+use crate::sink::Sink;
+use crate::source::Failed;
+use std::alloc::Global;
+use std::marker::Model;
+
+/// A sink that keeps what it takes in memory, as many bytes as it has room for. A call fails exactly where it is marked,
+/// or where no room is left for a piece that isn't empty; one that doesn't takes all that fits.
+#[derive(Debug, Drop)]
+pub struct MemSink {
+    bytes: Vec<u8>,
+    room: usize,
+    marks: Marks,
+    calls: u64,
+    faults: u64,
+}
+
+impl Model for MemSink {
+    ghost use Rattle.std.specs.Prelude.{◌+◌, ◌≤◌, vec_len, vec_capacity};
+    ghost use Rattle.link_ends.specs.Memory.{Store};
+
+    ghost Value = { Store };
+
+    ghost view = { λ s. record { taken = s.bytes.items; room = s.room; marks = s.marks; calls = s.calls; faults = s.faults } };
+
+    ghost invariant = { λ s. vec_len s.bytes + s.room ≤ vec_capacity s.bytes };
+}
+
+impl MemSink {
+    /// Nothing is taken, and `room` bytes fit, whose memory is taken now. The calls with the numbers of `fails` are to fail.
+    pub fn new(alloc: Global, room: u32, fails: Marks) -> Result<MemSink, NoMemory>
+        ensures { IfOk result (λ sink. sink ≡ record { taken = []; room = room; marks = fails; calls = 0; faults = 0 }) }
+    {
+        let room = room as usize;
+        Ok(MemSink {
+            bytes: Vec::with_capacity(alloc, room)?,
+            room,
+            marks: fails,
+            calls: 0,
+            faults: 0,
+        })
+    }
+
+    /// The bytes taken so far, oldest first.
+    pub fn written(&self) -> &[u8]
+        ensures { result.now ≡ self.now.taken }
+    {
+        self.bytes.as_slice()
+    }
+}
+
+impl Sink for MemSink {
+    ghost taken = { λ s. Some s.taken };
+
+    ghost faults = { λ s. s.faults };
+
+    ghost stuck = { stuck_of };
+
+    fn write(&mut self, piece: &[u8]) -> Result<usize, Failed>
+        ensures failed { is_err result ≡ is_refused self.old piece.now }
+        ensures all_that_fits { IfOk result (λ n. n ≡ min (length piece.now) self.old.room) }
+        ensures room { IfOk result (λ n. self.new.room ≡ self.old.room - n) }
+        ensures no_room { OnErr result (self.new.room ≡ self.old.room) }
+        ensures call { self.new.calls ≡ one_more self.old.calls }
+        ensures marks { self.new.marks ≡ self.old.marks }
+
+        // What each sink promises.
+        ensures count { IfOk result (λ n. n ≤ length piece.now) }
+        ensures bytes { IfOk result (λ n. Takes (Some self.old.taken) (Some self.new.taken) n piece.now) }
+        ensures stands { IfOk result (λ n. n ≡ 0 → 0 < length piece.now → Rose (stuck_of self.old) (stuck_of self.new)) }
+        ensures moves { IfOk result (λ n. n ≢ 0 → stuck_of self.new ≡ stuck_of self.old) }
+        ensures works { OnOk result (self.new.faults ≡ self.old.faults) }
+        ensures fails { OnErr result (Rose self.old.faults self.new.faults) }
+        ensures untaken { OnErr result (Some self.new.taken ≡ Some self.old.taken) }
+        ensures not_stuck { OnErr result (stuck_of self.new ≡ stuck_of self.old) }
+        ensures faults_stay { self.old.faults ≤ self.new.faults }
+        ensures stuck_stay { stuck_of self.old ≤ stuck_of self.new }
+    {
+        let refused = self.marks.has(self.calls) || (self.room == 0 && !piece.is_empty());
+        self.calls = self.calls.saturating_add(1);
+        if refused {
+            self.faults = self.faults.saturating_add(1);
+            return Err(Failed);
+        }
+        let count = piece.len().min(self.room);
+        match self.bytes.extend_from_slice(&piece[..count]) {
+            Ok(()) => {
+                self.room -= count;
+                Ok(count)
+            }
+            Err(_) => unreachable!(),
+        }
+    }
+}
