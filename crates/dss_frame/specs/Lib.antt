@@ -1,0 +1,3 @@
+pub mod Dss
+pub mod Reading
+pub mod Scan

@@ -1,0 +1,49 @@
+ghost use Rattle.std.specs.Prelude.{◌≡◌};
+ghost use Rattle.dss_frame.specs.declared.fault.FeedFault.TheVariants.{NoMemory as OutOfMemory};
+
+use link_ends::NoMemory;
+use std::alloc::AllocError;
+use thiserror::Error;
+
+/// What is wrong with a frame.
+#[derive(Clone, Copy, Debug, PartialEq, Eq)]
+pub enum Why {
+    /// The first segment is shorter than its header.
+    Short,
+    /// The third byte isn't D0.
+    NoD0,
+    /// The format isn't one that is read here.
+    Format,
+    /// A further segment is shorter than its header.
+    Continue,
+}
+
+/// Why bytes could not be read.
+#[derive(Clone, Copy, Debug, PartialEq, Eq, Error)]
+pub enum FeedFault {
+    /// The bytes from this place on are no DSS, however they go on.
+    #[error("the frame at {at} can't be read ({why:?})")]
+    Frame { at: u64, why: Why, corr: u16 },
+    /// A chain has more bytes than the limit, of which the one at this place is the first beyond.
+    #[error("the chain passes the limit at {at}")]
+    TooLong { at: u64, corr: u16 },
+    /// Memory ran out. The reader is as it was before.
+    #[error("memory ran out")]
+    NoMemory,
+}
+
+impl From<NoMemory> for FeedFault {
+    ghost from_gives = { λ _ e. e ≡ OutOfMemory };
+
+    fn from(_error: NoMemory) -> FeedFault {
+        FeedFault::NoMemory
+    }
+}
+
+impl From<AllocError> for FeedFault {
+    ghost from_gives = { λ _ e. e ≡ OutOfMemory };
+
+    fn from(_error: AllocError) -> FeedFault {
+        FeedFault::NoMemory
+    }
+}
