@@ -1,0 +1,5 @@
+use Rattle.ddm_objects.proofs.Spelled.{outer_again}
+use Rattle.ddm_objects.proofs.laws.spelled_is_outer.Goals as goal
+
+pub returns : goal.returns
+returns c = λ object short. outer_again object short

@@ -1,0 +1,18 @@
+/// Why bytes are no object.
+#[derive(Clone, Copy, Debug, PartialEq, Eq)]
+pub enum ObjWhy {
+    /// Fewer than four bytes are left, or the length is below 4.
+    LessThan4,
+    /// The object ends past the end of what it lies in, or bytes are left over after the only object.
+    Past,
+    /// The length has its top bit set.
+    Extended,
+}
+
+/// A fault of an object: its offset in bytes, from 0, and why. Where bytes are left over it is the offset of the
+/// first of these.
+#[derive(Clone, Copy, Debug, PartialEq, Eq)]
+pub struct ObjFault {
+    pub at: usize,
+    pub why: ObjWhy,
+}
