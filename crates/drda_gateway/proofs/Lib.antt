@@ -1,0 +1,9 @@
+pub mod HexLemmas
+pub mod ScriptLemmas
+pub mod SplitLemmas
+pub mod Ends
+pub mod Replay
+pub mod Following
+pub mod Headline
+pub mod UserLemmas
+pub mod Playing

@@ -1,0 +1,23 @@
+use Rattle.std.proofs.Common.{◌≡◌, ◌∷◌, ◌++◌, [], ap, sym, ◌∙◌, rules}
+use Rattle.drda_gateway.specs.Users.{is_taken}
+use Rattle.drda_gateway.proofs.UserLemmas.{is_taken-contains, KnowsNames-push}
+use Rattle.drda_gateway.proofs.script.users.insert_user.Goals as goal
+
+pub returns-then-not-branch-clause-added : goal.returns-then-not-branch-clause-added
+returns-then-not-branch-clause-added c =
+    let taken = is_taken-contains c.args.names.now c.args.list.now.items c.args.user.name c.args.key c.requires.known c.requires.key in
+    let added = c.in_ok-insert.ensures.added in
+    cc
+
+pub returns-clause-added : goal.returns-clause-added
+returns-clause-added c =
+    let taken = is_taken-contains c.args.names.now c.args.list.now.items c.args.user.name c.args.key c.requires.known c.requires.key in
+    let added = c.in_ok-insert.ensures.added in
+    cc
+
+pub returns-clause-still_known : goal.returns-clause-still_known
+returns-clause-still_known c =
+    let items : c.push.new.self.items ≡ c.args.list.now.items ++ c.args.user ∷ [] = search rules in
+    λ name.
+    KnowsNames-push c.args.names.now c.insert.new.self c.args.list.now.items c.args.user c.args.key c.requires.known c.requires.key c.in_ok-insert.ensures.keys name
+    ∙ ap (is_taken name) (sym items)

@@ -1,0 +1,70 @@
+-- What each status of play says. No standard speaks of it.
+use Rattle.std.specs.Prelude.{ℕ, List, [], ◌∷◌, ◌++◌, ◌≡◌, ◌≤◌, ◌⊎◌, Option, Result, Ok, Err, length, codes}
+use Rattle.std.specs.Fmt.{decimal}
+use Rattle.drda_gateway.specs.declared.script.ScriptWhy.{ScriptWhy}
+use Rattle.drda_gateway.specs.declared.script.ScriptWhy.TheVariants.{Word, Order, Field, Long}
+use Rattle.drda_gateway.specs.declared.script.ScriptFault.{ScriptFault}
+use Rattle.drda_gateway.specs.declared.script.ScriptFault.TheVariants.{Refused, NoMemory}
+use Rattle.drda_gateway.specs.Refusal.{Refusal}
+use Rattle.drda_gateway.specs.ScriptText.{ScriptText}
+use Rattle.drda_gateway.specs.Script.{script_of, most}
+use Rattle.drda_gateway.specs.Ends.{Gave, IsWhole, Took, TookSome, Stopped}
+use Rattle.drda_gateway.specs.World.{world_of}
+use Rattle.drda_gateway.specs.Report.{report_of, line_end}
+use Rattle.drda_gateway.specs.Dedicated.{AreDedicated}
+
+-- the words that play is called by
+abbrev pub play_words : List (List ℕ)
+play_words = codes "play" ∷ []
+
+abbrev pub usage_text : List ℕ
+usage_text = codes "usage: drda_gateway play [--brief]" ++ line_end
+
+abbrev pub why_word : ScriptWhy → List ℕ
+why_word Word = codes "word"
+why_word Order = codes "order"
+why_word Field = codes "field"
+why_word Long = codes "long"
+
+abbrev pub refusal_text : Refusal → List ℕ
+refusal_text refusal = codes "script refused: line " ++ (decimal refusal.line ++ (codes " " ++ (why_word refusal.why ++ line_end)))
+
+-- a sink took all of the text, or a call of it failed or stuck and it took the first bytes
+abbrev pub Offered : Option (List ℕ) → Option (List ℕ) → ℕ → ℕ → ℕ → ℕ → List ℕ → Type 0
+Offered taken taken_now faults faults_now stuck stuck_now text =
+    Took taken taken_now text ⊎ (TookSome taken taken_now text × Stopped faults faults_now stuck stuck_now)
+
+-- The report of the script that a text is, or why it is refused; nothing is said where memory ran out.
+abbrev pub Reports : Result (List ℕ) ScriptFault → List ℕ → Type 0
+Reports (Ok report) text = (script : ScriptText) × (script_of text ≡ Ok script) × (report ≡ report_of (world_of script.lines))
+Reports (Err (Refused line why)) text = script_of text ≡ Err (record { line = line; why = why })
+Reports (Err NoMemory) text = Unit {0}
+
+-- The source was read to its end, and the sink took the whole report of the script that it gave. Each application of
+-- that script was sent what a dedicated session sends.
+pub record Played (left left_now taken taken_now : Option (List ℕ)) (ends ends_now : ℕ) : Type 0 where
+  pub text : List ℕ
+  pub script : ScriptText
+  pub gave : Gave left left_now text
+  pub whole : IsWhole left text ends ends_now
+  pub is_script : script_of text ≡ Ok script
+  pub took : Took taken taken_now (report_of (world_of script.lines))
+  pub dedicated : AreDedicated (world_of script.lines)
+
+-- The source gave a script that is refused, read to its end or past the longest script.
+pub record RefusedScript (left left_now : Option (List ℕ)) (ends ends_now : ℕ) (Tells : List ℕ → Type 0) : Type 0 where
+  pub text : List ℕ
+  pub refusal : Refusal
+  pub gave : Gave left left_now text
+  pub whole : length text ≤ most → IsWhole left text ends ends_now
+  pub is_refused : script_of text ≡ Err refusal
+  pub told : Tells (refusal_text refusal)
+
+-- The source gave a script, and the sink the first bytes of its report.
+pub record BegunReport (left left_now taken taken_now : Option (List ℕ)) (ends ends_now : ℕ) : Type 0 where
+  pub text : List ℕ
+  pub script : ScriptText
+  pub gave : Gave left left_now text
+  pub whole : IsWhole left text ends ends_now
+  pub is_script : script_of text ≡ Ok script
+  pub took : TookSome taken taken_now (report_of (world_of script.lines))

@@ -1,0 +1,48 @@
+ghost use Rattle.std.specs.Prelude.{◌≡◌, ◌≤◌, length, IfOk, IfErr};
+ghost use Rattle.drda_gateway.specs.Ends.{Gave, IsWhole, ReadFails};
+
+use link_ends::{NoMemory, Octets, Source};
+use std::alloc::Global;
+
+/// The most bytes that a script may have.
+pub const MOST_BYTES: usize = 16_777_216;
+
+/// Why a source wasn't read to its end.
+#[derive(Clone, Copy, Debug, PartialEq, Eq)]
+pub enum ReadError {
+    /// A call of the source failed.
+    Fault,
+    /// Memory ran out.
+    NoMemory,
+}
+
+impl From<NoMemory> for ReadError {
+    ghost use Rattle.drda_gateway.specs.declared.input.ReadError.TheVariants.{NoMemory as OutOfMemory};
+
+    ghost from_gives = { λ _ e. e ≡ OutOfMemory };
+
+    fn from(_error: NoMemory) -> ReadError {
+        ReadError::NoMemory
+    }
+}
+
+/// Reads a source to its end, or until it has given more bytes than a script may have.
+pub fn read_all<S: Source>(alloc: Global, source: &mut S) -> Result<Octets, ReadError>
+    ensures gave { IfOk result (λ text. Gave (S.left source.old) (S.left source.new) text) }
+    ensures whole { IfOk result (λ text. length text ≤ MOST_BYTES → IsWhole (S.left source.old) text (S.ends source.old) (S.ends source.new)) }
+    ensures fails { IfErr result (λ e. ReadFails (S.faults source.old) (S.faults source.new) e) }
+{
+    let mut text = Octets::new(alloc);
+    let mut buf = [0u8; 4096];
+    while text.len() <= MOST_BYTES {
+        let count = match source.read(&mut buf) {
+            Ok(count) => count,
+            Err(_) => return Err(ReadError::Fault),
+        };
+        if count == 0 {
+            return Ok(text);
+        }
+        text.push_all(&buf[..count])?;
+    }
+    Ok(text)
+}

@@ -1,0 +1,41 @@
+//! A DRDA gateway: it answers applications in the place of the members of a data sharing group.
+#![tactic(auto)]
+
+mod answer;
+mod input;
+mod laws;
+mod output;
+mod play;
+mod report;
+mod script;
+mod session;
+mod std_ends;
+#[cfg(test)]
+mod tests;
+mod world;
+
+use play::play;
+use std::process::ExitCode;
+use std::{env, io};
+use std_ends::{StdSink, StdSource};
+
+/// The status of a program that finds no memory for its words.
+const NO_MEMORY: u8 = 5;
+
+/// The words after the program's name.
+fn words(rt: &HostRuntime) -> io::Result<Vec<String>> {
+    let mut words = Vec::new(rt.alloc());
+    for word in env::args(rt)?.skip(1) {
+        words.push(word)?;
+    }
+    Ok(words)
+}
+
+fn main(rt: HostRuntime) -> ExitCode {
+    let Ok(words) = words(&rt) else {
+        return ExitCode::from(NO_MEMORY);
+    };
+    let mut source = StdSource::new(rt.reader());
+    let mut sink = StdSink::new(io::writer(&rt));
+    ExitCode::from(play(rt.alloc(), &words, &mut source, &mut sink))
+}

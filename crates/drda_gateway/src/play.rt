@@ -1,0 +1,129 @@
+ghost use Rattle.std.specs.Prelude.{◌≡◌, ◌≢◌, ◌≤◌, ◌↔◌, ◌⊎◌, ℕ, List, Some, Ok, IsTrue, codes, IfOk, map, string_bytes};
+ghost use Rattle.link_ends.specs.Counts.{Rose};
+ghost use Rattle.drda_gateway.specs.Ends.{Stopped};
+ghost use Rattle.drda_gateway.specs.ScriptText.{ScriptText};
+ghost use Rattle.drda_gateway.specs.Script.{script_of};
+ghost use Rattle.drda_gateway.specs.Play.{play_words, usage_text, refusal_text, Offered, Played, RefusedScript, BegunReport, Reports};
+
+use crate::input::{ReadError, read_all};
+use crate::output::write_all;
+use crate::report::report;
+use crate::script::{ScriptFault, ScriptWhy, read_script};
+use crate::world::run_script;
+use link_ends::{NoMemory, Octets, Sink, Source};
+use std::alloc::Global;
+
+/// What `play` is called with, as its users are told.
+const USAGE: &[u8] = b"usage: drda_gateway play [--brief]\n";
+
+/// How `play` ends. Its number is the status of the program.
+#[derive(Clone, Copy, Debug, PartialEq, Eq)]
+enum Status {
+    /// The whole report was taken.
+    Done = 0,
+    /// The words aren't those of `play`.
+    Usage = 1,
+    /// The script is refused.
+    Refused = 2,
+    /// A read failed.
+    SourceFault = 3,
+    /// A write failed, or took nothing.
+    SinkFault = 4,
+    /// Memory ran out.
+    NoMemory = 5,
+}
+
+/// Reads a script to its end, runs it, and writes the report. The words are exactly `play`.
+///
+/// The answer is the status: 0 where the whole report was taken; 1 where the words are others, with the usage offered to
+/// the sink; 2 where the script is refused, with its first bad line and the reason offered; 3 where a read failed, and 5
+/// where memory ran out, with nothing written; 4 where a write of the report failed or took nothing.
+pub fn play<S: Source, K: Sink>(alloc: Global, words: &[String], source: &mut S, sink: &mut K) -> u8
+    ensures done { result ≡ 0 → Played (S.left source.old) (S.left source.new) (K.taken sink.old) (K.taken sink.new) (S.ends source.old) (S.ends source.new) }
+    ensures usage { result ≡ 1 → map string_bytes words.now ≢ play_words }
+    ensures words { result ≢ 1 → map string_bytes words.now ≡ play_words }
+    ensures usage_told { result ≡ 1 → Offered (K.taken sink.old) (K.taken sink.new) (K.faults sink.old) (K.faults sink.new) (K.stuck sink.old) (K.stuck sink.new) usage_text }
+    ensures unread { result ≡ 1 → S.left source.new ≡ S.left source.old }
+    ensures refused { result ≡ 2 → RefusedScript (S.left source.old) (S.left source.new) (S.ends source.old) (S.ends source.new) (Offered (K.taken sink.old) (K.taken sink.new) (K.faults sink.old) (K.faults sink.new) (K.stuck sink.old) (K.stuck sink.new)) }
+    ensures source_fault { result ≡ 3 → Rose (S.faults source.old) (S.faults source.new) }
+    ensures sink_fault { result ≡ 4 → Stopped (K.faults sink.old) (K.faults sink.new) (K.stuck sink.old) (K.stuck sink.new) }
+    ensures begun { result ≡ 4 → BegunReport (S.left source.old) (S.left source.new) (K.taken sink.old) (K.taken sink.new) (S.ends source.old) (S.ends source.new) }
+    ensures unwritten { (result ≡ 3) ⊎ (result ≡ 5) → K.taken sink.new ≡ K.taken sink.old }
+    ensures statuses { result ≤ 5 }
+
+    // A script that is read without a fault, and whose report is taken, is played.
+    ensures complete { (text : List ℕ) (script : ScriptText) → S.left source.old ≡ Some text → script_of text ≡ Ok script
+        → map string_bytes words.now ≡ play_words
+        → (Rose (S.faults source.old) (S.faults source.new) → ⊥)
+        → (Stopped (K.faults sink.old) (K.faults sink.new) (K.stuck sink.old) (K.stuck sink.new) → ⊥)
+        → (result ≡ 0) ⊎ (result ≡ 5) }
+{
+    if !are_play_words(words) {
+        offer(sink, USAGE);
+        return Status::Usage as u8;
+    }
+    let text = match read_all(alloc, source) {
+        Ok(text) => text,
+        Err(ReadError::Fault) => return Status::SourceFault as u8,
+        Err(ReadError::NoMemory) => return Status::NoMemory as u8,
+    };
+    match report_on(alloc, text.as_slice()) {
+        Ok(report) => match write_all(sink, report.as_slice()) {
+            Ok(()) => Status::Done as u8,
+            Err(_) => Status::SinkFault as u8,
+        },
+        Err(ScriptFault::Refused { line, why }) => match refusal(alloc, line, why) {
+            Ok(text) => {
+                offer(sink, text.as_str().as_bytes());
+                Status::Refused as u8
+            }
+            Err(_) => Status::NoMemory as u8,
+        },
+        Err(ScriptFault::NoMemory) => Status::NoMemory as u8,
+    }
+}
+
+/// Whether the words are those of `play`.
+fn are_play_words(words: &[String]) -> bool
+    ensures { IsTrue result ↔ (map string_bytes words.now ≡ play_words) }
+{
+    match words {
+        [word] => is_play(word.as_str()),
+        _ => false,
+    }
+}
+
+fn is_play(word: &str) -> bool
+    ensures { IsTrue result ↔ (word.now ≡ codes "play") }
+{
+    word == "play"
+}
+
+/// Writes a text, as far as the sink takes it.
+fn offer<K: Sink>(sink: &mut K, text: &[u8])
+    ensures { Offered (K.taken sink.old) (K.taken sink.new) (K.faults sink.old) (K.faults sink.new) (K.stuck sink.old) (K.stuck sink.new) text.now }
+{
+    let _ = write_all(sink, text);
+}
+
+/// The report of the script that a text is.
+fn report_on(alloc: Global, text: &[u8]) -> Result<Octets, ScriptFault>
+    ensures { Reports result text.now }
+{
+    let script = read_script(alloc, text)?;
+    let world = run_script(alloc, script.lines())?;
+    Ok(report(alloc, &world)?)
+}
+
+/// What a refused script is told.
+fn refusal(alloc: Global, line: u64, why: ScriptWhy) -> Result<String, NoMemory>
+    ensures { IfOk result (λ text. string_bytes text ≡ refusal_text (record { line = line; why = why })) }
+{
+    let word = match why {
+        ScriptWhy::Word => "word",
+        ScriptWhy::Order => "order",
+        ScriptWhy::Field => "field",
+        ScriptWhy::Long => "long",
+    };
+    Ok(format!(in alloc; "script refused: line {line} {word}\n")?)
+}

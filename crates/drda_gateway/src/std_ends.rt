@@ -1,0 +1,88 @@
+ghost use Rattle.std.specs.Prelude.{None};
+
+use link_ends::{Failed, Sink, Source};
+use std::io::{Read, Write};
+
+/// A reader as a source. It tells no bytes; its counts begin at 0.
+#[derive(Drop)]
+pub struct StdSource<R: Read + Drop> {
+    input: R,
+    faults: u64,
+    ends: u64,
+}
+
+impl<R: Read + Drop> StdSource<R> {
+    /// No call of it was made yet.
+    pub fn new(input: R) -> StdSource<R> {
+        StdSource {
+            input,
+            faults: 0,
+            ends: 0,
+        }
+    }
+}
+
+impl<R: Read + Drop> Source for StdSource<R> {
+    ghost left = { λ _. None };
+
+    ghost faults = { λ s. s.faults };
+
+    ghost ends = { λ s. s.ends };
+
+    fn read(&mut self, buf: &mut [u8]) -> Result<usize, Failed> {
+        match self.input.read(buf) {
+            Ok(count) => {
+                if count == 0 && !buf.is_empty() {
+                    self.ends = self.ends.saturating_add(1);
+                }
+                Ok(count)
+            }
+            Err(_) => {
+                self.faults = self.faults.saturating_add(1);
+                Err(Failed)
+            }
+        }
+    }
+}
+
+/// A writer as a sink. It tells no bytes; its counts begin at 0.
+#[derive(Drop)]
+pub struct StdSink<W: Write + Drop> {
+    output: W,
+    faults: u64,
+    stuck: u64,
+}
+
+impl<W: Write + Drop> StdSink<W> {
+    /// No call of it was made yet.
+    pub fn new(output: W) -> StdSink<W> {
+        StdSink {
+            output,
+            faults: 0,
+            stuck: 0,
+        }
+    }
+}
+
+impl<W: Write + Drop> Sink for StdSink<W> {
+    ghost taken = { λ _. None };
+
+    ghost faults = { λ s. s.faults };
+
+    ghost stuck = { λ s. s.stuck };
+
+    fn write(&mut self, piece: &[u8]) -> Result<usize, Failed> {
+        match self.output.write(piece) {
+            Ok(count) => {
+                if count == 0 && !piece.is_empty() {
+                    self.stuck = self.stuck.saturating_add(1);
+                }
+                Ok(count)
+            }
+            Err(_) => {
+                self.faults = self.faults.saturating_add(1);
+                Err(Failed)
+            }
+        }
+    }
+}
