@@ -1,4 +1,4 @@
-ghost use Rattle.std.specs.Prelude.{None};
+ghost use Rattle.std.specs.Prelude.{◌≡◌, None};
 
 use link_ends::{Failed, Sink, Source};
 use std::io::{Read, Write};
@@ -13,7 +13,10 @@ pub struct StdSource<R: Read + Drop> {
 
 impl<R: Read + Drop> StdSource<R> {
     /// No call of it was made yet.
-    pub fn new(input: R) -> StdSource<R> {
+    pub fn new(input: R) -> StdSource<R>
+        ensures input { result.input ≡ input }
+        ensures counts { (result.faults ≡ 0) × (result.ends ≡ 0) }
+    {
         StdSource {
             input,
             faults: 0,
@@ -55,7 +58,10 @@ pub struct StdSink<W: Write + Drop> {
 
 impl<W: Write + Drop> StdSink<W> {
     /// No call of it was made yet.
-    pub fn new(output: W) -> StdSink<W> {
+    pub fn new(output: W) -> StdSink<W>
+        ensures output { result.output ≡ output }
+        ensures counts { (result.faults ≡ 0) × (result.stuck ≡ 0) }
+    {
         StdSink {
             output,
             faults: 0,

@@ -1,6 +1,8 @@
 use crate::play::play;
-use link_ends::{Marks, MemSink, MemSource, NoMemory, Octets};
+use crate::std_ends::{StdSink, StdSource};
+use link_ends::{Failed, Marks, MemSink, MemSource, NoMemory, Octets, Sink, Source};
 use std::alloc::Global;
+use std::io::{self, Read, Write};
 use std::test::Fail;
 
 /// A script whose application sends EXCSAT, and what it takes.
@@ -84,4 +86,38 @@ fn refuses_low_levels_and_other_bytes(rt: HostRuntime) -> Result<(), Fail> {
         );
     }
     Ok(())
+}
+
+/// A stream that fails at every call.
+#[derive(Drop)]
+struct Broken;
+
+impl Read for Broken {
+    fn read(&mut self, _buf: &mut [u8]) -> io::Result<usize> {
+        Err(io::Error::from(io::ErrorKind::BrokenPipe))
+    }
+}
+
+impl Write for Broken {
+    fn write(&mut self, _buf: &[u8]) -> io::Result<usize> {
+        Err(io::Error::from(io::ErrorKind::BrokenPipe))
+    }
+
+    fn flush(&mut self) -> io::Result<()> {
+        Ok(())
+    }
+}
+
+#[test]
+fn streams_are_ends(rt: HostRuntime) {
+    let mut buf = [0u8; 4];
+    let mut source = StdSource::new(b"abcde".as_slice());
+    assert_eq!(rt; source.read(&mut buf), Ok(4));
+    assert_eq!(rt; source.read(&mut buf), Ok(1));
+    assert_eq!(rt; source.read(&mut buf), Ok(0));
+    let mut sink = StdSink::new(Vec::new(rt.alloc()));
+    assert_eq!(rt; sink.write(b"abc"), Ok(3));
+    assert_eq!(rt; sink.write(b""), Ok(0));
+    assert_eq!(rt; StdSource::new(Broken).read(&mut buf), Err(Failed));
+    assert_eq!(rt; StdSink::new(Broken).write(b"abc"), Err(Failed));
 }
