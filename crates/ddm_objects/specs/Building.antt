@@ -1,4 +1,5 @@
--- Objects that are being written, one within another.
+-- Objects that are being written, one within another. No standard speaks of a builder: it is this project's own; what it
+-- writes are objects of DDM, volume 3, DDM objects (Objects.antt).
 use Rattle.std.specs.Prelude.{ℕ, ◌+◌, List, [], ◌∷◌, ◌++◌, length, sum_by}
 use Rattle.ddm_objects.specs.Objects.{Member, canonical_object}
 

@@ -1,4 +1,4 @@
--- The objects that a builder keeps while they are written.
+-- The objects that a builder keeps while they are written. No standard speaks of it: this is this project's own.
 use Rattle.std.specs.Prelude.{◌≡◌, ◌<◌, ◌^◌, ℕ, List, [], ◌∷◌, length, map, reverse}
 use Rattle.ddm_objects.specs.Objects.{Member, canonical_object}
 use Rattle.ddm_objects.specs.declared.builder.OpenObject.{OpenObject}

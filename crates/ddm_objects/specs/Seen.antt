@@ -1,4 +1,4 @@
--- What a call answers, without where it lies in memory.
+-- What a call answers, without where it lies in memory. No standard speaks of it: this is this project's own.
 use Rattle.std.specs.Borrow.{Bor}
 use Rattle.std.specs.Prelude.{List, ℕ, Option, option_map, Result, Ok, Err}
 use Rattle.ddm_objects.specs.declared.fault.ObjFault.{ObjFault}

@@ -1,4 +1,5 @@
--- What one command is answered. Only EXCSAT is answered at this stage; all else has one refusal.
+-- What one command is answered: DRDA, volume 3, EXCSAT, EXCSATRD, MGRLVLRM, SYNTAXRM. Only EXCSAT is answered at this
+-- stage; that all else has one refusal is this project's choice.
 use Rattle.std.specs.Prelude.{ℕ, List, [], ◌∷◌, ◌==◌, ◌&&◌, false, is_none, if◌then◌else◌, Option, Some, None, option_map, Result, Ok, Err}
 use Rattle.dss_frame.specs.declared.dss.Dss.{Dss}
 use Rattle.dss_frame.specs.declared.dss.Kind.{Kind}

@@ -1,4 +1,5 @@
--- What a call that may lack memory answers, beside the answer that a definition gives.
+-- What a call that may lack memory answers, beside the answer that a definition gives. No standard speaks of it: this is
+-- this project's own.
 use Rattle.std.specs.Prelude.{◌≡◌, ℕ, Result, Ok, Err}
 use Rattle.drda_gateway.specs.declared.script.ScriptWhy.{ScriptWhy}
 use Rattle.drda_gateway.specs.declared.script.ScriptFault.{ScriptFault}

@@ -1,5 +1,5 @@
 -- What an application may believe: a session of its own, which reads its bytes and answers one command after another.
--- There are no pieces here, and no other application.
+-- There are no pieces here, and no other application. This promise is this project's own.
 use Rattle.std.specs.Prelude.{ℕ, List, [], ◌∷◌, ◌++◌, ◌≡◌, length, take, Option, Some, None}
 use Rattle.std.specs.List.{AllByRecursion}
 use Rattle.dss_frame.specs.declared.dss.Placed.{Placed}

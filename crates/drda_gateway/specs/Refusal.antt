@@ -1,4 +1,4 @@
--- The first bad line of a script.
+-- The first bad line of a script. Scripts and their refusals are this project's own.
 use Rattle.std.specs.Prelude.{ℕ}
 use Rattle.drda_gateway.specs.declared.script.ScriptWhy.{ScriptWhy}
 

@@ -1,4 +1,4 @@
--- What a script says, without where it lies in memory.
+-- What a script says, without where it lies in memory. Scripts are this project's own.
 use Rattle.std.specs.Prelude.{ℕ, List, []}
 use Rattle.drda_gateway.specs.declared.script.Member.{Member}
 use Rattle.drda_gateway.specs.declared.script.User.{User}

@@ -1,4 +1,5 @@
--- All sessions and the log, as a function of the list of the events that were run: the replay.
+-- All sessions and the log, as a function of the list of the events that were run: the replay. Events, log and replay are
+-- this project's own.
 use Rattle.std.specs.Prelude.{ℕ, zero, suc, List, [], ◌∷◌, ◌++◌, ◌+◌, ◌-◌, ◌&&◌, ◌≡◌, Bool, true, false, MatchOption, length, nat_lt, nat_le, is_some, is_none, if◌then◌else◌, Option, Some, None, option_map, position, replicate, slice_set, slice_index_or}
 use Rattle.drda_gateway.specs.declared.world.Entry.{Entry}
 use Rattle.drda_gateway.specs.declared.world.Entry.TheVariants.{Answer, Error}
@@ -81,7 +82,6 @@ abbrev pub and_then_more : Option Event → (Event → List Event) → List Even
 and_then_more None more = []
 and_then_more (Some event) more = event ∷ more event
 
--- at most so many events, each the first that can be taken when it comes
 -- at most so many events, each the first that can be taken when it comes
 abbrev pub settle_events : ℕ → WorldState → List Event
 settle_events zero w = []

@@ -1,4 +1,4 @@
--- The canonical spelling of a DSS (data stream structure).
+-- The canonical spelling of a DSS (data stream structure): DRDA, volume 3, DSS.
 use Rattle.std.specs.Prelude.{ℕ, zero, suc, ◌+◌, ◌/◌, Bool, List, [], ◌∷◌, ◌++◌, length, take, drop, nat_lt, if◌then◌else◌}
 use Rattle.std.specs.Int.{w16, to_be_bytes}
 use Rattle.dss_frame.specs.declared.dss.Kind.{Kind}

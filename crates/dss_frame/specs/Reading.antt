@@ -1,5 +1,6 @@
 -- How bytes are read as DSSs, one byte after the other. Only DSSs of the plain form are read: one segment, of a request
--- that isn't chained.
+-- that isn't chained. The layout is that of DRDA, volume 3, DSS; what a reader is seen as, and places, are this project's
+-- own.
 use Rattle.std.specs.Prelude.{ℕ, ◌≡◌, ◌≢◌, ◌+◌, ◌-◌, ◌*◌, ◌^◌, ◌<◌, ◌≤◌, ◌&&◌, ◌||◌, ◌==◌, Bool, false, List, [], ◌∷◌, ◌++◌, length, drop, slice_index, min, nat_lt, nat_le, if◌then◌else◌, Option, Some, None}
 use Rattle.std.specs.List.{flat_map}
 use Rattle.dss_frame.specs.declared.dss.Kind.TheVariants.{Request}

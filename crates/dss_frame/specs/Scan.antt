@@ -1,5 +1,5 @@
 -- What the reader's scan over all bytes of the DSSs that have begun comes to, and what a writer leaves behind when it
--- stops.
+-- stops. No standard speaks of a scan: it is this project's own.
 use Rattle.std.specs.Prelude.{ℕ, ◌≡◌, ◌-◌, ◌≤◌, Bool, true, false, List, [], length, take, slice_range, if◌then◌else◌, Option, Some, None}
 use Rattle.dss_frame.specs.declared.dss.Placed.{Placed}
 use Rattle.dss_frame.specs.declared.scan.Scan.{Scan}

@@ -1,4 +1,5 @@
--- What one write does to the bytes that a sink has taken, where it tells them.
+-- What one write does to the bytes that a sink has taken, where it tells them. No standard speaks of sinks: they are
+-- this project's own.
 use Rattle.std.specs.Prelude.{ℕ, List, ◌++◌, ◌≡◌, Option, Some, MatchOption, take}
 
 -- the first count bytes of the piece were taken, and no others
