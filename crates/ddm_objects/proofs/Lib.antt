@@ -1,5 +1,6 @@
+pub mod Bytes
 pub mod Reading
 pub mod Finding
 pub mod Keeping
-pub mod Spelled
 pub mod Within
+pub mod Spelled

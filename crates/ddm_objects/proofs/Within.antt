@@ -2,7 +2,7 @@
 use Rattle.std.proofs.Common.{◌≡◌, ℕ, zero, suc, ◌+◌, ◌≤◌, Bool, true, false, cond, eqb, List, [], ◌∷◌, length, Option, Some, None, Result, Ok, Err, refl, ap, arith}
 use Rattle.ddm_objects.specs.declared.fault.ObjFault.{ObjFault}
 use Rattle.ddm_objects.specs.Objects.{Member, Found, object_at}
-use Rattle.ddm_objects.specs.Members.{Members, with_first, members_within, members_of, first_with, found_or_fault, find_of}
+use Rattle.ddm_objects.specs.Members.{Members, past, with_first, members_within, members_of, first_with, found_or_fault, find_of}
 use Rattle.ddm_objects.proofs.Reading.{found_size}
 
 abbrev LiesWithin : ℕ → Member → Type 0
@@ -38,9 +38,9 @@ unfolding members_within
 members_lie_within zero place code bytes object e = absurd cc
 members_lie_within (suc count) place code [] object e = absurd cc
 members_lie_within (suc count) place code (b ∷ bytes) object e =
-    first_with_within place code (b ∷ bytes) (object_at place (b ∷ bytes)) (λ found. members_within count (place + (length found.object.bytes + 4)) found.rest) refl (λ found is.
+    first_with_within place code (b ∷ bytes) (object_at place (b ∷ bytes)) (λ found. members_within count (past place (b ∷ bytes) found) found.rest) refl (λ found is.
     let size = found_size place (b ∷ bytes) found is in
-    wider (length found.rest) (length (b ∷ bytes)) code (members_within count (place + (length found.object.bytes + 4)) found.rest).objects (omega arith) (members_lie_within count (place + (length found.object.bytes + 4)) code found.rest)) object e
+    wider (length found.rest) (length (b ∷ bytes)) code (members_within count (past place (b ∷ bytes) found) found.rest).objects (omega arith) (members_lie_within count (past place (b ∷ bytes) found) code found.rest)) object e
 
 abbrev found_is : Option Member → Result (Option Member) ObjFault
 found_is found = Ok found

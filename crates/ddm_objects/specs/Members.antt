@@ -1,13 +1,13 @@
 -- Objects one after another, as the parameters of a command are. DDM, volume 3, DDM objects: a collection.
-use Rattle.std.specs.Prelude.{◌≡◌, ℕ, zero, suc, ◌+◌, List, [], ◌∷◌, length, ◌==◌, Option, None, Some, find, Result, Ok, Err}
-use Rattle.std.specs.List.{flat_map, AllByRecursion}
+use Rattle.std.specs.Prelude.{◌≡◌, ℕ, zero, suc, ◌+◌, ◌-◌, List, [], ◌∷◌, length, ◌==◌, Option, None, Some, find, Result, Ok, Err}
 use Rattle.ddm_objects.specs.declared.fault.ObjFault.{ObjFault}
-use Rattle.ddm_objects.specs.Objects.{Member, Found, short_object, IsShort, object_at}
+use Rattle.ddm_objects.specs.Objects.{Member, Found, Begins, object_at}
 
--- the bytes are the short spellings of these objects, one after another
-pub record AreMembers (objects : List Member) (bytes : List ℕ) : Type 0 where
-  pub each : AllByRecursion IsShort objects
-  pub spelled : bytes ≡ flat_map (λ object. short_object object.code object.bytes) objects
+-- the bytes are these objects one after another, each of which says where it ends: DDM, volume 3, DDM objects
+abbrev pub AreMembers : List Member → List ℕ → Type 0
+AreMembers [] bytes = bytes ≡ []
+AreMembers (object ∷ objects) bytes =
+    (rest : List ℕ) × Begins (record { object = object; rest = rest }) bytes × AreMembers objects rest
 
 -- the objects in order, up to the first fault if there is one
 pub record Members : Type 0 where
@@ -23,12 +23,16 @@ with_first (Ok found) others =
     record { objects = found.object ∷ (others found).objects; fault = (others found).fault }
 with_first (Err fault) others = record { objects = []; fault = Some fault }
 
+-- the offset of what comes after the object, where the bytes that begin with it are at this place
+abbrev pub past : ℕ → List ℕ → Found → ℕ
+past place bytes found = place + (length bytes - length found.rest)
+
 -- the members from this offset on, at most as many as count
 unfoldable pub members_within : ℕ → ℕ → List ℕ → Members
 members_within zero place bytes = no_members
 members_within (suc count) place [] = no_members
 members_within (suc count) place (byte ∷ bytes) =
-    with_first (object_at place (byte ∷ bytes)) (λ found. members_within count (place + (length found.object.bytes + 4)) found.rest)
+    with_first (object_at place (byte ∷ bytes)) (λ found. members_within count (past place (byte ∷ bytes) found) found.rest)
 
 -- the members from this offset on: there are no more of them than bytes
 abbrev pub members_from : ℕ → List ℕ → Members
@@ -71,13 +75,13 @@ next_at place (byte ∷ bytes) = Some (object_of (object_at place (byte ∷ byte
 abbrev pub next_of : Scan → Option (Result Member ObjFault)
 next_of scan = next_at scan.at scan.left
 
-abbrev pub past_object : ℕ → Result Found ObjFault → Scan
-past_object place (Ok found) = record { at = place + (length found.object.bytes + 4); left = found.rest }
-past_object place (Err fault) = record { at = place; left = [] }
+abbrev pub past_object : ℕ → List ℕ → Result Found ObjFault → Scan
+past_object place bytes (Ok found) = record { at = past place bytes found; left = found.rest }
+past_object place bytes (Err fault) = record { at = place; left = [] }
 
 abbrev pub after_at : ℕ → List ℕ → Scan
 after_at place [] = record { at = place; left = [] }
-after_at place (byte ∷ bytes) = past_object place (object_at place (byte ∷ bytes))
+after_at place (byte ∷ bytes) = past_object place (byte ∷ bytes) (object_at place (byte ∷ bytes))
 
 -- the scan after the next member; after a fault nothing is left
 abbrev pub after_next : Scan → Scan

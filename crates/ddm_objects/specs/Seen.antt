@@ -2,8 +2,9 @@
 use Rattle.std.specs.Borrow.{Bor}
 use Rattle.std.specs.Prelude.{List, ℕ, Option, option_map, Result, Ok, Err}
 use Rattle.ddm_objects.specs.declared.fault.ObjFault.{ObjFault}
+use Rattle.ddm_objects.specs.declared.fault.ObjWhy.{ObjWhy}
 use Rattle.ddm_objects.specs.declared.object.Object.{Object}
-use Rattle.ddm_objects.specs.Objects.{Member, Found}
+use Rattle.ddm_objects.specs.Objects.{Member, Found, Extent}
 
 abbrev pub seen : Object → Member
 seen object = record { code = object.code; bytes = object.bytes.now }
@@ -20,3 +21,8 @@ seen_search (Err fault) = Err fault
 abbrev pub seen_found : Result (Object × Bor (List ℕ)) ObjFault → Result Found ObjFault
 seen_found (Ok (object, rest)) = Ok (record { object = seen object; rest = rest.now })
 seen_found (Err fault) = Err fault
+
+-- how many bytes of data there are, and the bytes from the data on
+abbrev pub seen_extent : Result (ℕ × Bor (List ℕ)) ObjWhy → Result Extent ObjWhy
+seen_extent (Ok (size, from)) = Ok (record { size = size; from = from.now })
+seen_extent (Err why) = Err why

@@ -4,7 +4,7 @@ ghost use Rattle.ddm_objects.specs.Objects.{canonical_object};
 ghost use Rattle.ddm_objects.specs.Building.{nothing_built, building_size, after_begin, after_put, after_end, with_bytes};
 ghost use Rattle.ddm_objects.specs.Kept.{kept, IsInnermost, FitsInnermost};
 
-use crate::object::HEADER;
+use crate::object::{EXTENDED_4, HEADER};
 use byteorder::{BigEndian, ByteOrder};
 use link_ends::{NoMemory, Octets};
 use std::alloc::Global;
@@ -12,9 +12,6 @@ use std::marker::Model;
 
 /// The greatest size of data that have a short length, in bytes.
 const GREATEST_SHORT: usize = 32_763;
-
-/// The first two bytes of an object with an extended length of four bytes.
-const EXTENDED_4: u16 = 0x8008;
 
 /// An object that is begun, with its data so far.
 #[derive(Debug, Drop)]

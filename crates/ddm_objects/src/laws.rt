@@ -1,27 +1,39 @@
-//! What members mean, as laws: each is a function that does nothing, and what it ensures is the law.
+//! What reading means, as laws: each is a function that does nothing, and what it ensures is the law.
 
-ghost use Rattle.std.specs.Prelude.{◌≡◌, ◌+◌, ◌<◌, ◌≤◌, ℕ, List, None, Some, Ok, All, length};
-ghost use Rattle.ddm_objects.specs.Objects.{Member, IsShort, short_object, outer_of};
+ghost use Rattle.std.specs.Prelude.{◌≡◌, ◌+◌, ◌<◌, ◌≤◌, ◌++◌, ℕ, List, true, None, Some, Ok, All, length};
+ghost use Rattle.std.specs.List.{flat_map, AllByRecursion};
+ghost use Rattle.ddm_objects.specs.Objects.{Member, Found, IsObject, IsFirst, HasCanonical, canonical_object, outer_of, first_of};
 ghost use Rattle.ddm_objects.specs.Members.{AreMembers, IsMembers, members_of, find_of};
 
 /// The one object that bytes are read as is spelled so.
 pub fn outer_is_spelled()
     ensures { (bytes : List ℕ) (object : Member) → All (λ byte. byte < 256) bytes → outer_of bytes ≡ Ok object
-        → IsShort object × (bytes ≡ short_object object.code object.bytes) }
+        → IsObject true object bytes }
 {}
 
-/// The short spelling of an object is read as this object.
+/// The spelling of an object, in each of its forms, is read as this object.
 pub fn spelled_is_outer()
-    ensures { (object : Member) → IsShort object → outer_of (short_object object.code object.bytes) ≡ Ok object }
+    ensures { (bytes : List ℕ) (object : Member) → IsObject true object bytes → outer_of bytes ≡ Ok object }
 {}
 
-/// Bytes in which no fault is met are spelled by the objects that are read: their short spellings stand there one
-/// after another, and nothing else.
+/// The first object that is read of bytes is spelled at their front, and the rest is what follows it.
+pub fn first_is_spelled()
+    ensures { (bytes : List ℕ) (found : Found) → All (λ byte. byte < 256) bytes → first_of bytes ≡ Ok found
+        → IsFirst found bytes }
+{}
+
+/// The spelling of an object is read as this object, whatever follows it; where its data go to the end, nothing does.
+pub fn spelled_is_first()
+    ensures { (bytes : List ℕ) (found : Found) → IsFirst found bytes → first_of bytes ≡ Ok found }
+{}
+
+/// Bytes in which no fault is met are spelled by the objects that are read: they stand there one after another, each
+/// in a form that says where it ends, and nothing else.
 pub fn members_are_spelled()
     ensures { (bytes : List ℕ) → All (λ byte. byte < 256) bytes → IsMembers bytes → AreMembers (members_of bytes).objects bytes }
 {}
 
-/// The short spellings of objects, one after another, are read as these objects.
+/// The spellings of objects, one after another, are read as these objects.
 pub fn spelled_are_members()
     ensures { (objects : List Member) (bytes : List ℕ) → AreMembers objects bytes
         → members_of bytes ≡ record { objects = objects; fault = None } }
@@ -31,6 +43,23 @@ pub fn spelled_are_members()
 pub fn members_are_one_list()
     ensures { (objects others : List Member) (bytes : List ℕ) → AreMembers objects bytes → AreMembers others bytes
         → objects ≡ others }
+{}
+
+/// What is written of an object is read as the one object of these bytes.
+pub fn canonical_is_outer()
+    ensures { (object : Member) → HasCanonical object → outer_of (canonical_object object.code object.bytes) ≡ Ok object }
+{}
+
+/// What is written of an object is read as the first one, whatever follows it.
+pub fn canonical_is_first()
+    ensures { (object : Member) (rest : List ℕ) → HasCanonical object
+        → first_of (canonical_object object.code object.bytes ++ rest) ≡ Ok (record { object = object; rest = rest }) }
+{}
+
+/// What is written of objects, one after another, is read as these objects.
+pub fn canonical_are_members()
+    ensures { (objects : List Member) → AllByRecursion HasCanonical objects
+        → members_of (flat_map (λ object. canonical_object object.code object.bytes) objects) ≡ record { objects = objects; fault = None } }
 {}
 
 /// A member that is found lies within the bytes that it was sought in.

@@ -4,7 +4,7 @@ ghost use Rattle.ddm_objects.specs.Members.{IsMembers, find_of, first_with, next
 ghost use Rattle.ddm_objects.specs.Seen.{seen, seen_result, seen_search};
 
 use crate::fault::ObjFault;
-use crate::object::{HEADER, Object, read_object};
+use crate::object::{Object, read_object};
 use std::marker::Model;
 
 /// A walk over the objects that stand one after another in bytes.
@@ -44,7 +44,7 @@ impl<'a> MemberScan<'a> {
         }
         match read_object(self.at, self.left) {
             Ok((object, rest)) => {
-                self.at += object.bytes.len() + HEADER;
+                self.at += self.left.len() - rest.len();
                 self.left = rest;
                 Some(Ok(object))
             }

@@ -1,8 +1,8 @@
 use Rattle.std.proofs.Common.{sym, ap, ◌∙◌}
-use Rattle.ddm_objects.specs.Members.{Members, members_of}
+use Rattle.ddm_objects.specs.Members.{Members}
 use Rattle.ddm_objects.proofs.Spelled.{members_again}
 use Rattle.ddm_objects.proofs.laws.members_are_one_list.Goals as goal
 
 pub returns : goal.returns
 returns c = λ objects others bytes are also.
-    ap (λ (m : Members). m.objects) (sym (members_again 0 objects are.each) ∙ ap members_of (sym are.spelled ∙ also.spelled) ∙ members_again 0 others also.each)
+    ap (λ (m : Members). m.objects) (sym (members_again 0 objects bytes are) ∙ members_again 0 others bytes also)

@@ -1,5 +1,6 @@
 use Rattle.std.proofs.Common.{length, arith}
-use Rattle.ddm_objects.proofs.Spelled.{bytes_from_all, members_take}
+use Rattle.ddm_objects.proofs.Bytes.{bytes_from_all}
+use Rattle.ddm_objects.proofs.Spelled.{members_take}
 use Rattle.ddm_objects.proofs.laws.members_are_spelled.Goals as goal
 
 pub returns : goal.returns

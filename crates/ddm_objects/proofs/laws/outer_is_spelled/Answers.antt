@@ -1,4 +1,5 @@
-use Rattle.ddm_objects.proofs.Spelled.{bytes_from_all, outer_takes}
+use Rattle.ddm_objects.proofs.Bytes.{bytes_from_all}
+use Rattle.ddm_objects.proofs.Spelled.{outer_takes}
 use Rattle.ddm_objects.proofs.laws.outer_is_spelled.Goals as goal
 
 pub returns : goal.returns

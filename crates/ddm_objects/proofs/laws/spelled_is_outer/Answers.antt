@@ -2,4 +2,4 @@ use Rattle.ddm_objects.proofs.Spelled.{outer_again}
 use Rattle.ddm_objects.proofs.laws.spelled_is_outer.Goals as goal
 
 pub returns : goal.returns
-returns c = λ object short. outer_again object short
+returns c = λ bytes object is. outer_again bytes object is
