@@ -1,11 +1,12 @@
 -- The objects that a builder keeps, with the innermost last.
-use Rattle.std.proofs.Common.{◌≡◌, ℕ, ◌+◌, ◌<◌, ◌≤◌, ◌^◌, List, [], ◌∷◌, ◌++◌, length, get_or, set, take, drop, map, reverse, sym, ap, subst, ◌∙◌, arith}
+use Rattle.std.proofs.Common.{◌≡◌, ℕ, ◌+◌, ◌<◌, ◌≤◌, ◌^◌, List, [], ◌∷◌, ◌++◌, length, get_or, set, take, drop, map, reverse, refl, sym, ap, subst, ◌∙◌, arith}
 use Rattle.std.proofs.lemmas.List.{map_push, reverse-append, take_more, take_more_set, take_all, take-take, get_or-take, length-set, length-take}
-use Rattle.std.proofs.lemmas.List.Sums.{sum_by-cons}
+use Rattle.std.proofs.lemmas.List.Sums.{sum_by-cons, sum_by_push}
+use Rattle.std.specs.List.{sum_by}
 use Rattle.ddm_objects.specs.declared.builder.OpenObject.{OpenObject}
 use Rattle.ddm_objects.specs.Objects.{Member, canonical_object}
 use Rattle.ddm_objects.specs.Building.{Building, building_size, with_bytes}
-use Rattle.ddm_objects.specs.Kept.{open_object, kept, IsInnermost, FitsInnermost}
+use Rattle.ddm_objects.specs.Kept.{open_object, open_size, kept, IsInnermost, FitsInnermost}
 
 pub kept_push : (objects : List OpenObject) (last : OpenObject) → kept (objects ++ last ∷ []) ≡ open_object last ∷ kept objects
 kept_push objects last = ap reverse (map_push open_object objects last) ∙ reverse-append (map open_object objects) (open_object last ∷ [])
@@ -68,3 +69,12 @@ innermost_is objects object outer bytes is e = subst (λ (os : List Member). IsI
 
 pub innermost_size : (objects : List Member) (object : OpenObject) (outer : List Member) → objects ≡ open_object object ∷ outer → FitsInnermost objects → length object.bytes < 2 ^ 32
 innermost_size objects object outer is fits = subst FitsInnermost is fits
+
+-- what is begun has as many bytes in either order
+pub kept_size : (objects : List OpenObject) → sum_by (λ (o : Member). length o.bytes + 8) (kept objects) ≡ sum_by open_size objects
+kept_size [] = refl
+kept_size (object ∷ objects) =
+    let size : Member → ℕ = λ o. length o.bytes + 8 in
+    let last : kept (object ∷ objects) ≡ kept objects ++ open_object object ∷ [] = reverse-append (open_object object ∷ []) (map open_object objects) in
+    ap (sum_by size) last ∙ sum_by_push size (kept objects) (open_object object)
+    ∙ omega (arith, kept_size objects, sum_by-cons open_size object objects)

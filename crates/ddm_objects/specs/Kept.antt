@@ -1,10 +1,14 @@
 -- The objects that a builder keeps while they are written. No standard speaks of it: this is this project's own.
-use Rattle.std.specs.Prelude.{◌≡◌, ◌<◌, ◌^◌, ℕ, List, [], ◌∷◌, length, map, reverse}
+use Rattle.std.specs.Prelude.{◌≡◌, ◌+◌, ◌<◌, ◌^◌, ℕ, List, [], ◌∷◌, length, map, reverse}
 use Rattle.ddm_objects.specs.Objects.{Member, canonical_object}
 use Rattle.ddm_objects.specs.declared.builder.OpenObject.{OpenObject}
 
 abbrev pub open_object : OpenObject → Member
 open_object object = record { code = object.code; bytes = object.bytes }
+
+-- how many bytes an object has, with the longest header
+abbrev pub open_size : OpenObject → ℕ
+open_size object = length object.bytes + 8
 
 -- the objects that are kept with the innermost last, the innermost first
 abbrev pub kept : List OpenObject → List Member

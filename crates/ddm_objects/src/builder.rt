@@ -1,8 +1,8 @@
-ghost use Rattle.std.specs.Prelude.{◌≡◌, ◌+◌, ◌<◌, ◌≤◌, ◌^◌, ◌++◌, [], length, drop, OnOk, OnErr, IfOk};
+ghost use Rattle.std.specs.Prelude.{◌≡◌, ◌+◌, ◌<◌, ◌≤◌, ◌^◌, ◌++◌, [], length, drop, sum_by, OnOk, OnErr, IfOk};
 ghost use Rattle.byteorder.specs.Endian.{big_bytes};
 ghost use Rattle.ddm_objects.specs.Objects.{canonical_object};
 ghost use Rattle.ddm_objects.specs.Building.{nothing_built, building_size, after_begin, after_put, after_end, with_bytes};
-ghost use Rattle.ddm_objects.specs.Kept.{kept, IsInnermost, FitsInnermost};
+ghost use Rattle.ddm_objects.specs.Kept.{kept, open_size, IsInnermost, FitsInnermost};
 
 use crate::object::{EXTENDED_4, HEADER};
 use byteorder::{BigEndian, ByteOrder};
@@ -12,6 +12,12 @@ use std::marker::Model;
 
 /// The greatest size of data that have a short length, in bytes.
 const GREATEST_SHORT: usize = 32_763;
+
+/// How many bytes the longest header has that is written.
+const LONGEST_HEADER: usize = 8;
+
+/// How many bytes can be built.
+const GREATEST_SIZE: usize = 33_554_432;
 
 /// An object that is begun, with its data so far.
 #[derive(Debug, Drop)]
@@ -52,6 +58,21 @@ impl Builder {
             written: Octets::new(alloc),
             begun: Vec::new(alloc),
         }
+    }
+
+    /// How many objects are begun and not ended yet.
+    pub fn depth(&self) -> usize
+        ensures { result ≡ length self.now.begun }
+    {
+        self.begun.len()
+    }
+
+    /// How many more bytes there is room for, where each begun object has the longest header. One that is begun takes
+    /// eight of them.
+    pub fn room(&self) -> usize
+        ensures { result + building_size self.now ≡ 33554432 }
+    {
+        GREATEST_SIZE - self.written.len() - begun_size(&self.begun)
     }
 
     /// Begins an object with this code point, within the innermost one that is begun.
@@ -99,6 +120,18 @@ impl Builder {
     {
         self.written
     }
+}
+
+/// How many bytes these objects have, each with the longest header.
+fn begun_size(begun: &[OpenObject]) -> usize
+    requires { sum_by open_size begun.now ≤ 33554432 }
+    ensures { result ≡ sum_by open_size begun.now }
+{
+    let mut size = 0;
+    for object in begun {
+        size += object.bytes.len() + LONGEST_HEADER;
+    }
+    size
 }
 
 /// Appends these bytes to the data of the last object.

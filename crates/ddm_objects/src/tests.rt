@@ -132,6 +132,8 @@ fn writes(rt: HostRuntime) -> Result<(), Fail> {
     builder.begin(0x124C)?;
     builder.begin(0x1149)?;
     builder.put(&[0x00, 0x08])?;
+    assert_eq!(rt; builder.depth(), 2);
+    assert_eq!(rt; builder.room(), 33_554_414);
     builder.end()?;
     builder.begin(0x114A)?;
     builder.put(&[0x04])?;
