@@ -10,9 +10,9 @@ use Rattle.dss_frame.specs.declared.fault.FeedFault.{FeedFault}
 use Rattle.dss_frame.specs.Reading.{View}
 use Rattle.drda_gateway.specs.declared.session.Need.TheVariants as need
 use Rattle.drda_gateway.specs.Session.{SessionState, fresh, is_reading, is_saying, can_take, taken_more, said_more, appended}
-use Rattle.drda_gateway.specs.World.{WorldState, Event, Append, Take, Say, start_world, session_at, changed, after, after_all, entry_if, newly_refused}
+use Rattle.drda_gateway.specs.World.{WorldState, Event, Append, Take, Say, start_world, session_at, changed, after, after_all, answer_entries, end_entries, newly_ended}
 use Rattle.drda_gateway.specs.declared.world.Entry.{Entry}
-use Rattle.drda_gateway.specs.declared.world.Entry.TheVariants as entry
+use Rattle.drda_gateway.specs.declared.session.End.{End}
 use Rattle.drda_gateway.specs.Dedicated.{replies_to, dedicated, IsDedicated, AreDedicated}
 use Rattle.drda_gateway.proofs.Following.{Reads, Stands, Follows, take_follows, say_follows, append_follows, fresh_follows, no_bytes, is_none-is}
 
@@ -53,9 +53,9 @@ take_by w app count entries true e all =
     let s = session_at w app in
     let can = and_parts (ltb 0 count) (can_take s) e in
     let reading = and_parts (is_reading s) (ltb s.taken (length s.bytes)) can.1 in
-    let idle = and_parts (leb (length s.saying) 0) (is_none s.refused) reading.0 in
+    let idle = and_parts (leb (length s.saying) 0) (is_none s.ended) reading.0 in
     changed_follow w app (taken_more count s) entries all
-    (take_follows s count (follows_at w app all) (no_bytes s.saying (leb-true (length s.saying) 0 idle.0)) (is_none-is s.refused idle.1))
+    (take_follows s count (follows_at w app all) (no_bytes s.saying (leb-true (length s.saying) 0 idle.0)) (is_none-is s.ended idle.1))
 
 say_by : (w : WorldState) (app count : ℕ) (entries : List Entry) (said : Bool) → AllFollow w → AllFollow (cond said (changed app (said_more count (session_at w app)) entries w) w)
 say_by w app count entries false all = all
@@ -67,10 +67,10 @@ after_follow w (Append app bytes) all =
     changed_follow w app (appended bytes (session_at w app)) [] all (append_follows (session_at w app) bytes (follows_at w app all))
 after_follow w (Take app count) all =
     let s = session_at w app in
-    take_by w app count (entry_if (newly_refused s (taken_more count s)) (entry.Error app)) (ltb 0 count && can_take s) refl all
+    take_by w app count (end_entries app (newly_ended s (taken_more count s))) (ltb 0 count && can_take s) refl all
 after_follow w (Say app count) all =
     let s = session_at w app in
-    say_by w app count (entry_if (leb (length s.saying) count) (entry.Answer app) ++ entry_if (newly_refused s (said_more count s)) (entry.Error app)) (ltb 0 count && is_saying s) all
+    say_by w app count (answer_entries app (leb (length s.saying) count) ++ end_entries app (newly_ended s (said_more count s))) (ltb 0 count && is_saying s) all
 
 after_all_follow : (w : WorldState) (events : List Event) → AllFollow w → AllFollow (after_all w events)
 after_all_follow w [] all = all
@@ -78,9 +78,9 @@ after_all_follow w (event ∷ events) all = after_all_follow (after w event) eve
 
 -- ---- and what is kept says it
 
-began_by : (s : SessionState) (refused : Option ℕ) → Stands refused s → s.sent ≡ take (length s.sent) (dedicated (take s.taken s.bytes))
+began_by : (s : SessionState) (ended : Option End) → Stands ended s → s.sent ≡ take (length s.sent) (dedicated (take s.taken s.bytes))
 unfolding dedicated
-began_by s (Some place) stands =
+began_by s (Some end) stands =
     sym (ap (take (length s.sent)) (sym stands) ∙ take-append_seam s.sent s.saying)
 began_by s None reads =
     let all = ap (λ (v : View). replies_to v.whole v.fault) reads.read ∙ reads.replied s.reader.whole s.reader.fault ∙ append_assoc s.sent s.saying (replies_to s.reader.whole s.reader.fault) in
@@ -94,24 +94,24 @@ all_sent_by s reads silent =
     sym (all ∙ ap (λ (xs : List Placed). (s.sent ++ s.saying) ++ replies_to xs s.reader.fault) idle.0 ∙ ap (λ (f : Option FeedFault). (s.sent ++ s.saying) ++ replies_to [] f) idle.1
     ∙ append-nil (s.sent ++ s.saying) ∙ ap (λ (xs : List ℕ). s.sent ++ xs) silent ∙ append-nil s.sent)
 
--- what waits for its application says nothing and wasn't refused
-waits_by : (saying refused : Bool) → cond saying need.Say (cond refused need.Done need.App) ≡ need.App → (saying ≡ false) × (refused ≡ false)
-waits_by true refused e = absurd (cc)
+-- what waits for its application says nothing and hasn't ended
+waits_by : (saying ended : Bool) → cond saying need.Say (cond ended need.Done need.App) ≡ need.App → (saying ≡ false) × (ended ≡ false)
+waits_by true ended e = absurd (cc)
 waits_by false true e = absurd (cc)
 waits_by false false e = (refl, refl)
 
-is_some-is : (o : Option ℕ) → is_some o ≡ false → o ≡ None
+is_some-is : (o : Option End) → is_some o ≡ false → o ≡ None
 is_some-is None e = refl
 is_some-is (Some x) e = absurd (cc)
 
 follows_is_dedicated : (s : SessionState) → Follows s → IsDedicated s
 follows_is_dedicated s follows = record {
-  began = began_by s s.refused follows.stands;
+  began = began_by s s.ended follows.stands;
   all_sent = λ e.
-      let waits = waits_by (is_saying s) (is_some s.refused) e in
+      let waits = waits_by (is_saying s) (is_some s.ended) e in
       let silent = no_bytes s.saying (ltb-false 0 (length s.saying) waits.0) in
-      let goes_on = is_some-is s.refused waits.1 in
-      all_sent_by s (subst (λ (o : Option ℕ). Stands o s) goes_on follows.stands) silent;
+      let goes_on = is_some-is s.ended waits.1 in
+      all_sent_by s (subst (λ (o : Option End). Stands o s) goes_on follows.stands) silent;
 }
 
 -- for every list of events each session is as a dedicated one

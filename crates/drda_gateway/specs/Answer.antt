@@ -1,16 +1,24 @@
--- What one command is answered: DRDA, volume 3, EXCSAT, EXCSATRD, MGRLVLRM, SYNTAXRM. Only EXCSAT is answered at this
--- stage; that all else has one refusal is this project's choice.
-use Rattle.std.specs.Prelude.{ℕ, List, [], ◌∷◌, ◌==◌, ◌&&◌, false, is_none, if◌then◌else◌, Option, Some, None, option_map, Result, Ok, Err}
+-- What one command is answered: DDM, volume 3, EXCSAT, EXCSATRD, MGRLVLRM, SYNTAXRM, RSCLMTRM. Only EXCSAT is answered at
+-- this stage; that all else has one refusal is this project's choice.
+use Rattle.std.specs.Prelude.{ℕ, List, [], ◌∷◌, ◌++◌, ◌==◌, ◌&&◌, Bool, true, false, not, is_none, if◌then◌else◌, Option, Some, None, option_map, Result, Ok, Err}
 use Rattle.dss_frame.specs.declared.dss.Dss.{Dss}
 use Rattle.dss_frame.specs.declared.dss.Kind.{Kind}
-use Rattle.dss_frame.specs.declared.dss.Kind.TheVariants.{Reply, Object}
+use Rattle.dss_frame.specs.declared.dss.Kind.TheVariants.{Request, Reply, Object}
+use Rattle.dss_frame.specs.declared.fault.Why.{Why}
+use Rattle.dss_frame.specs.declared.fault.Why.TheVariants.{Short, NoD0, Format, Continue}
+use Rattle.dss_frame.specs.declared.fault.FeedFault.{FeedFault}
+use Rattle.dss_frame.specs.declared.fault.FeedFault.TheVariants.{Frame, TooLong, NoMemory}
 use Rattle.dss_frame.specs.Dss.{canonical}
 use Rattle.ddm_objects.specs.declared.fault.ObjFault.{ObjFault}
-use Rattle.ddm_objects.specs.Objects.{Member, outer_of}
+use Rattle.ddm_objects.specs.Objects.{Member, outer_of, canonical_object}
 use Rattle.ddm_objects.specs.Members.{members_of}
 use Rattle.access_handshake.specs.Excsat.{excsat_answer}
 use Rattle.access_handshake.specs.declared.excsat.ExcsatAnswer.{ExcsatAnswer}
 use Rattle.access_handshake.specs.declared.excsat.ExcsatAnswer.TheVariants.{Granted, TooLow}
+
+-- the greatest chain of requests, in bytes: this project's choice
+abbrev pub most_chain : ℕ
+most_chain = 16777216
 
 -- the parameters of the object, where it is EXCSAT and they are objects one after another
 abbrev pub excsat_params : Result Member ObjFault → Option (List ℕ)
@@ -22,21 +30,58 @@ excsat_params (Err fault) = None
 unfoldable pub params_of : List ℕ → Option (List ℕ)
 params_of body = excsat_params (outer_of body)
 
+abbrev pub is_request : Kind → Bool
+is_request Request = true
+is_request Reply = false
+is_request Object = false
+
+-- A request that is its chain alone. That its chain would go on after an error says nothing, since it ends there.
+abbrev pub is_lone_request : Dss → Bool
+is_lone_request dss = is_request dss.kind && not dss.chained
+
 -- a DSS that stands alone in its chain
 abbrev pub lone : Kind → ℕ → List ℕ → Dss
 lone kind corr body = record { kind = kind; chained = false; same = false; go_on = false; corr = corr; body = body }
 
--- DRDA, volume 3, EXCSATRD is reply data and goes in an object DSS, MGRLVLRM is a reply message
+-- DDM, volume 3: EXCSATRD is reply data and goes in an object DSS, MGRLVLRM is a reply message
 abbrev pub reply_dss : ℕ → ExcsatAnswer → Dss
 reply_dss corr (Granted object) = lone Object corr object
 reply_dss corr (TooLow object) = lone Reply corr object
 
--- the bytes that answer a request DSS, with its correlation number; None where it is refused
+-- the bytes that answer a DSS, with its correlation number; None where it is refused
 unfoldable pub answer_to : Dss → Option (List ℕ)
-answer_to dss = option_map (λ params. canonical (reply_dss dss.corr (excsat_answer params))) (params_of dss.body)
+answer_to dss =
+    if is_lone_request dss
+    then option_map (λ params. canonical (reply_dss dss.corr (excsat_answer params))) (params_of dss.body)
+    else None
 
--- The one refusal: SYNTAXRM (DRDA, volume 3) with SVRCOD 8 and SYNERRCD 04 in a reply DSS of correlation number 0.
-abbrev pub syntax_reply : List ℕ
-syntax_reply =
-    0x00 ∷ 0x15 ∷ 0xD0 ∷ 0x02 ∷ 0x00 ∷ 0x00
-    ∷ 0x00 ∷ 0x0F ∷ 0x12 ∷ 0x4C ∷ 0x00 ∷ 0x06 ∷ 0x11 ∷ 0x49 ∷ 0x00 ∷ 0x08 ∷ 0x00 ∷ 0x05 ∷ 0x11 ∷ 0x4A ∷ 0x04 ∷ []
+-- DDM, volume 3, SYNERRCD: what is wrong with the bytes of a DSS
+abbrev pub syntax_error : Why → ℕ
+syntax_error Short = 0x01
+syntax_error NoD0 = 0x03
+syntax_error Format = 0x04
+syntax_error Continue = 0x05
+
+-- DDM, volume 3, SVRCOD: the severity of an error
+abbrev pub severity : List ℕ
+severity = canonical_object 0x1149 (0x00 ∷ 0x08 ∷ [])
+
+-- SYNTAXRM with this SYNERRCD, in a reply DSS with this correlation number: DDM, volume 3, SYNTAXRM
+abbrev pub syntax_reply : ℕ → ℕ → List ℕ
+syntax_reply corr code =
+    canonical (lone Reply corr (canonical_object 0x124C (severity ++ canonical_object 0x114A (code ∷ []))))
+
+-- RSCLMTRM, in a reply DSS with this correlation number: DDM, volume 3, RSCLMTRM
+abbrev pub limit_reply : ℕ → List ℕ
+limit_reply corr = canonical (lone Reply corr (canonical_object 0x1233 severity))
+
+-- The one refusal of a DSS that is no lone EXCSAT. Its correlation number 0 and its SYNERRCD are this project's choice.
+abbrev pub refusal : List ℕ
+refusal = syntax_reply 0 0x04
+
+-- What a reader's fault is answered, with its correlation number: a chain beyond the limit has RSCLMTRM. Want of memory is
+-- no fault that a reader keeps.
+abbrev pub fault_reply : FeedFault → List ℕ
+fault_reply (Frame at why corr) = syntax_reply corr (syntax_error why)
+fault_reply (TooLong at corr) = limit_reply corr
+fault_reply NoMemory = limit_reply 0

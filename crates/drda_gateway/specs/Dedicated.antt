@@ -4,29 +4,31 @@ use Rattle.std.specs.Prelude.{ℕ, List, [], ◌∷◌, ◌++◌, ◌≡◌, len
 use Rattle.std.specs.List.{AllByRecursion}
 use Rattle.dss_frame.specs.declared.dss.Placed.{Placed}
 use Rattle.dss_frame.specs.declared.fault.FeedFault.{FeedFault}
+use Rattle.dss_frame.specs.declared.dss.Side.TheVariants.{Requests}
 use Rattle.dss_frame.specs.Reading.{start, fed}
-use Rattle.drda_gateway.specs.Answer.{answer_to, syntax_reply}
+use Rattle.drda_gateway.specs.Answer.{most_chain, answer_to, refusal, fault_reply}
 use Rattle.drda_gateway.specs.Session.{SessionState, need_of}
 use Rattle.drda_gateway.specs.declared.session.Need.TheVariants.{App}
 use Rattle.drda_gateway.specs.World.{WorldState}
 
--- the reply to bytes in which no whole request is left
+-- what is sent behind the last whole DSS
 abbrev pub closing : Option FeedFault → List ℕ
 closing None = []
-closing (Some fault) = syntax_reply
+closing (Some fault) = fault_reply fault
 
 abbrev pub reply_or_close : Option (List ℕ) → List ℕ → List ℕ
-reply_or_close None others = syntax_reply
+reply_or_close None others = refusal
 reply_or_close (Some reply) others = reply ++ others
 
--- the replies to requests in their order, and then the closing one; a refused request is the last that is answered
+-- the replies to DSSs in their order, and then the closing one; a refused DSS is the last that is answered
 abbrev pub replies_to : List Placed → Option FeedFault → List ℕ
 replies_to [] fault = closing fault
 replies_to (placed ∷ others) fault = reply_or_close (answer_to placed.dss) (replies_to others fault)
 
 -- what a dedicated session sends when it has read these bytes
 unfoldable pub dedicated : List ℕ → List ℕ
-dedicated bytes = replies_to (fed start bytes).whole (fed start bytes).fault
+dedicated bytes =
+    replies_to (fed (start Requests most_chain) bytes).whole (fed (start Requests most_chain) bytes).fault
 
 -- What was sent is the beginning of what a dedicated session sends for the bytes that were taken, and all of it where
 -- the session waits for more of them.

@@ -3,6 +3,10 @@ use Rattle.std.specs.Prelude.{ℕ, List, [], ◌∷◌, ◌++◌, ◌+◌, ◌==
 use Rattle.std.specs.List.{flat_map}
 use Rattle.std.specs.Fmt.{decimal}
 use Rattle.hex.specs.Hex.{encode_upper}
+use Rattle.drda_gateway.specs.declared.session.End.{End}
+use Rattle.drda_gateway.specs.declared.session.End.TheVariants.{Refused, Limit}
+use Rattle.drda_gateway.specs.declared.world.ErrorWord.{ErrorWord}
+use Rattle.drda_gateway.specs.declared.world.ErrorWord.TheVariants as word
 use Rattle.drda_gateway.specs.declared.world.Entry.{Entry}
 use Rattle.drda_gateway.specs.declared.world.Entry.TheVariants.{Answer, Error}
 use Rattle.drda_gateway.specs.Session.{SessionState, is_saying}
@@ -15,13 +19,14 @@ line_end = 10 ∷ []
 abbrev pub shown_bytes : List ℕ → List ℕ
 shown_bytes bytes = if length bytes == 0 then codes "-" else encode_upper bytes
 
--- the place at which a session ended, once its closing reply is said
-abbrev pub end_of : SessionState → Option ℕ
-end_of s = if is_saying s then None else s.refused
+-- how a session ended, once its closing reply is said
+abbrev pub end_of : SessionState → Option End
+end_of s = if is_saying s then None else s.ended
 
-abbrev pub shown_end : Option ℕ → List ℕ
+abbrev pub shown_end : Option End → List ℕ
 shown_end None = codes " open" ++ line_end
-shown_end (Some place) = codes " ended syntax " ++ (decimal place ++ line_end)
+shown_end (Some (Refused place)) = codes " ended syntax " ++ (decimal place ++ line_end)
+shown_end (Some Limit) = codes " ended limit request" ++ line_end
 
 -- the two lines of an application
 unfoldable pub session_lines : ℕ → SessionState → List ℕ
@@ -34,9 +39,13 @@ abbrev pub sessions_lines : ℕ → List SessionState → List ℕ
 sessions_lines app [] = []
 sessions_lines app (s ∷ sessions) = (if s.named then session_lines app s else []) ++ sessions_lines (app + 1) sessions
 
+abbrev pub shown_word : ErrorWord → List ℕ
+shown_word word.Syntax = codes " syntax"
+shown_word word.Limit = codes " limit"
+
 unfoldable pub entry_line : Entry → List ℕ
 entry_line (Answer app) = codes "log answer " ++ (decimal app ++ line_end)
-entry_line (Error app) = codes "log error " ++ (decimal app ++ (codes " syntax" ++ line_end))
+entry_line (Error app word) = codes "log error " ++ (decimal app ++ (shown_word word ++ line_end))
 
 -- nothing is committed, dialled, reused or lost at this stage
 abbrev pub count_line : List ℕ

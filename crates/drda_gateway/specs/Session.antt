@@ -1,11 +1,14 @@
 -- The conversation with one application as the gateway keeps it: what it has taken, what it says, what it has sent. How
 -- it is kept is this project's own.
 use Rattle.std.specs.Prelude.{ℕ, List, [], ◌∷◌, ◌++◌, ◌+◌, ◌&&◌, Bool, true, false, length, take, drop, nat_lt, nat_le, is_some, is_none, if◌then◌else◌, Option, Some, None}
+use Rattle.dss_frame.specs.declared.dss.Side.TheVariants.{Requests}
 use Rattle.dss_frame.specs.declared.dss.Placed.{Placed}
 use Rattle.dss_frame.specs.declared.fault.FeedFault.{FeedFault}
 use Rattle.dss_frame.specs.declared.fault.FeedFault.TheVariants.{Frame, TooLong, NoMemory}
 use Rattle.dss_frame.specs.Reading.{View, start, fed}
-use Rattle.drda_gateway.specs.Answer.{answer_to, syntax_reply}
+use Rattle.drda_gateway.specs.Answer.{most_chain, answer_to, refusal, fault_reply}
+use Rattle.drda_gateway.specs.declared.session.End.{End}
+use Rattle.drda_gateway.specs.declared.session.End.TheVariants.{Refused, Limit}
 use Rattle.drda_gateway.specs.declared.session.Need.{Need}
 use Rattle.drda_gateway.specs.declared.session.Need.TheVariants.{App, Say, Done}
 
@@ -20,18 +23,22 @@ pub record SessionState : Type 0 where
   -- what is left to say of the reply in work, and all that was said
   pub saying : List ℕ
   pub sent : List ℕ
-  -- the place at which the bytes were refused; the session ends with that reply
-  pub refused : Option ℕ
+  -- how it ended: what it says then is its last reply
+  pub ended : Option End
+
+-- the reader of an application that has sent nothing
+abbrev pub unread : View
+unread = start Requests most_chain
 
 abbrev pub fresh : SessionState
-fresh = record { named = false; bytes = []; taken = 0; reader = start; saying = []; sent = []; refused = None }
+fresh = record { named = false; bytes = []; taken = 0; reader = unread; saying = []; sent = []; ended = None }
 
 abbrev pub is_saying : SessionState → Bool
 is_saying s = nat_lt 0 (length s.saying)
 
 -- nothing is being said, and the session hasn't ended
 abbrev pub is_reading : SessionState → Bool
-is_reading s = nat_le (length s.saying) 0 && is_none s.refused
+is_reading s = nat_le (length s.saying) 0 && is_none s.ended
 
 -- the application's next bytes can be taken
 abbrev pub can_take : SessionState → Bool
@@ -39,26 +46,27 @@ can_take s = is_reading s && nat_lt s.taken (length s.bytes)
 
 -- what the session waits for: that its reply is said, or that bytes come; after its end for nothing
 abbrev pub need_of : SessionState → Need
-need_of s = if is_saying s then Say else (if is_some s.refused then Done else App)
+need_of s = if is_saying s then Say else (if is_some s.ended then Done else App)
 
--- the place of a reader's fault
-abbrev pub place_of : FeedFault → ℕ
-place_of (Frame at why corr) = at
-place_of (TooLong at corr) = at
-place_of NoMemory = 0
+-- how a reader's fault ends a session
+abbrev pub end_by : FeedFault → End
+end_by (Frame at why corr) = Refused at
+end_by (TooLong at corr) = Limit
+end_by NoMemory = Limit
 
-abbrev pub refused_at : ℕ → SessionState → SessionState
-refused_at at s = record s { saying = syntax_reply; refused = Some at }
+-- the session ends, with this reply
+abbrev pub closed : End → List ℕ → SessionState → SessionState
+closed end reply s = record s { saying = reply; ended = Some end }
 
--- the request that begins at a place is in work: its reply is what is said, or it is refused
+-- the DSS that begins at a place is in work: its reply is what is said, or it is refused
 abbrev pub put_in_work : ℕ → Option (List ℕ) → SessionState → SessionState
 put_in_work at (Some reply) s = record s { saying = reply }
-put_in_work at None s = refused_at at s
+put_in_work at None s = closed (Refused at) refusal s
 
--- no whole request is left; the bytes after the last one may be refused already
+-- no whole DSS is left; a fault may stand behind the last one
 abbrev pub past_requests : Option FeedFault → SessionState → SessionState
 past_requests None s = s
-past_requests (Some fault) s = refused_at (place_of fault) s
+past_requests (Some fault) s = closed (end_by fault) (fault_reply fault) s
 
 -- the next request comes into work, where the bytes taken have one
 abbrev pub begun_with : List Placed → SessionState → SessionState

@@ -1,6 +1,10 @@
 -- All sessions and the log, as a function of the list of the events that were run: the replay. Events, log and replay are
 -- this project's own.
-use Rattle.std.specs.Prelude.{ℕ, zero, suc, List, [], ◌∷◌, ◌++◌, ◌+◌, ◌-◌, ◌&&◌, ◌≡◌, Bool, true, false, MatchOption, length, nat_lt, nat_le, is_some, is_none, if◌then◌else◌, Option, Some, None, option_map, position, replicate, slice_set, slice_index_or}
+use Rattle.std.specs.Prelude.{ℕ, zero, suc, List, [], ◌∷◌, ◌++◌, ◌+◌, ◌-◌, ◌&&◌, ◌≡◌, Bool, true, false, MatchOption, length, nat_lt, nat_le, is_none, if◌then◌else◌, Option, Some, None, option_map, position, replicate, slice_set, slice_index_or}
+use Rattle.drda_gateway.specs.declared.session.End.{End}
+use Rattle.drda_gateway.specs.declared.session.End.TheVariants.{Refused, Limit}
+use Rattle.drda_gateway.specs.declared.world.ErrorWord.{ErrorWord}
+use Rattle.drda_gateway.specs.declared.world.ErrorWord.TheVariants as word
 use Rattle.drda_gateway.specs.declared.world.Entry.{Entry}
 use Rattle.drda_gateway.specs.declared.world.Entry.TheVariants.{Answer, Error}
 use Rattle.drda_gateway.specs.declared.script.Line.{Line}
@@ -29,26 +33,36 @@ session_at w app = slice_index_or w.sessions (app - 1) fresh
 abbrev pub changed : ℕ → SessionState → List Entry → WorldState → WorldState
 changed app s entries w = record { sessions = slice_set w.sessions (app - 1) s; log = w.log ++ entries }
 
--- an entry, where something happened
-abbrev pub entry_if : Bool → Entry → List Entry
-entry_if happened entry = if happened then entry ∷ [] else []
+-- the word of the log for how a session ended
+abbrev pub word_of : End → ErrorWord
+word_of (Refused place) = word.Syntax
+word_of Limit = word.Limit
 
--- the bytes of a session were refused just now
-abbrev pub newly_refused : SessionState → SessionState → Bool
-newly_refused s next = is_none s.refused && is_some next.refused
+-- what the log says of a session that has ended just now
+abbrev pub end_entries : ℕ → Option End → List Entry
+end_entries app None = []
+end_entries app (Some end) = Error app (word_of end) ∷ []
 
--- what follows a take: where the bytes are refused the log says so
+-- how a session ended just now, if it did
+abbrev pub newly_ended : SessionState → SessionState → Option End
+newly_ended s next = if is_none s.ended then next.ended else None
+
+-- what follows a take: where the session ends the log says so
 abbrev pub after_take : ℕ → ℕ → SessionState → WorldState → WorldState
 after_take app count s w =
     if nat_lt 0 count && can_take s
-    then changed app (taken_more count s) (entry_if (newly_refused s (taken_more count s)) (Error app)) w
+    then changed app (taken_more count s) (end_entries app (newly_ended s (taken_more count s))) w
     else w
 
--- what follows a say: the log has the answer at its last byte, and then a refusal of what comes next
+-- the log has an answer where the last byte of a reply was said
+abbrev pub answer_entries : ℕ → Bool → List Entry
+answer_entries app answers = if answers then Answer app ∷ [] else []
+
+-- what follows a say: the log has the answer at its last byte, and then an end that comes next
 abbrev pub after_say : ℕ → ℕ → SessionState → WorldState → WorldState
 after_say app count s w =
     if nat_lt 0 count && is_saying s
-    then changed app (said_more count s) (entry_if (nat_le (length s.saying) count) (Answer app) ++ entry_if (newly_refused s (said_more count s)) (Error app)) w
+    then changed app (said_more count s) (answer_entries app (nat_le (length s.saying) count) ++ end_entries app (newly_ended s (said_more count s))) w
     else w
 
 -- an event that can't be taken changes nothing

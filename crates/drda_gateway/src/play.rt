@@ -88,15 +88,9 @@ fn are_play_words(words: &[String]) -> bool
     ensures { IsTrue result ↔ (map string_bytes words.now ≡ play_words) }
 {
     match words {
-        [word] => is_play(word.as_str()),
+        [word] => word.as_str() == "play",
         _ => false,
     }
-}
-
-fn is_play(word: &str) -> bool
-    ensures { IsTrue result ↔ (word.now ≡ codes "play") }
-{
-    word == "play"
 }
 
 /// Writes a text, as far as the sink takes it.

@@ -2,18 +2,19 @@ ghost use Rattle.std.specs.Prelude.{◌≡◌, ◌++◌, ◌<◌, ◌^◌, lengt
 ghost use Rattle.std.specs.List.{flat_map};
 ghost use Rattle.drda_gateway.specs.Report.{entry_line, report_of, session_lines, sessions_lines, shown_bytes, shown_end};
 
-use crate::session::Session;
-use crate::world::{Entry, World};
+use crate::session::{End, Session};
+use crate::world::{Entry, ErrorWord, World};
 use link_ends::{NoMemory, Octets};
 use std::alloc::Global;
 
-/// What a session without an end, or with one at a place, is shown as.
-fn end_text(alloc: Global, end: Option<u64>) -> Result<String, NoMemory>
+/// What a session is shown as that goes on, or has ended so.
+fn end_text(alloc: Global, end: Option<End>) -> Result<String, NoMemory>
     ensures { IfOk result (λ text. string_bytes text ≡ shown_end end) }
 {
     match end {
         None => Ok(String::from_str(alloc, " open\n")?),
-        Some(place) => Ok(format!(in alloc; " ended syntax {place}\n")?),
+        Some(End::Refused { place }) => Ok(format!(in alloc; " ended syntax {place}\n")?),
+        Some(End::Limit) => Ok(String::from_str(alloc, " ended limit request\n")?),
     }
 }
 
@@ -51,7 +52,14 @@ fn push_entry(alloc: Global, out: &mut Octets, entry: Entry) -> Result<(), NoMem
 {
     let line = match entry {
         Entry::Answer { app } => format!(in alloc; "log answer {app}\n")?,
-        Entry::Error { app } => format!(in alloc; "log error {app} syntax\n")?,
+        Entry::Error {
+            app,
+            word: ErrorWord::Syntax,
+        } => format!(in alloc; "log error {app} syntax\n")?,
+        Entry::Error {
+            app,
+            word: ErrorWord::Limit,
+        } => format!(in alloc; "log error {app} limit\n")?,
     };
     out.push_all(line.as_bytes())
 }

@@ -1,14 +1,15 @@
 ghost use Rattle.std.specs.Prelude.{◌≡◌, ◌≤◌, length, is_some, OnOk};
 ghost use Rattle.drda_gateway.specs.Report.{end_of};
-ghost use Rattle.drda_gateway.specs.Session.{appended, begun, can_take, fresh, is_saying, need_of, place_of, refused_at, said_more, taken_more};
+ghost use Rattle.drda_gateway.specs.Session.{appended, begun, can_take, closed, end_by, fresh, is_saying, need_of, said_more, taken_more};
+ghost use Rattle.drda_gateway.specs.Answer.{fault_reply};
 
-use crate::answer::{SYNTAX_REPLY, answer};
+use crate::answer::{NOT_SUPPORTED, answer, limit_reply, syntax_error, syntax_reply};
 use dss_frame::{FeedFault, Reader, Side};
 use link_ends::{NoMemory, Octets};
 use std::alloc::Global;
 use std::marker::Model;
 
-/// The longest chain that a reader takes, in bytes.
+/// The greatest chain of requests, in bytes.
 const MOST_CHAIN: u64 = 16_777_216;
 
 /// What a session waits for.
@@ -20,6 +21,15 @@ pub enum Need {
     Say,
     /// Nothing more: it has ended.
     Done,
+}
+
+/// How a session ended.
+#[derive(Clone, Copy, Debug, PartialEq, Eq)]
+pub enum End {
+    /// Its bytes were refused at this place.
+    Refused { place: u64 },
+    /// A chain of its requests passed the limit.
+    Limit,
 }
 
 /// The conversation with one application: its bytes, taken in whatever pieces, are answered one command after another.
@@ -34,11 +44,12 @@ pub struct Session {
     reply: Octets,
     said: usize,
     sent: Octets,
-    refused: Option<u64>,
+    ended: Option<End>,
 }
 
 impl Model for Session {
     ghost use Rattle.std.specs.Prelude.{◌≡◌, ◌≤◌, drop, length};
+    ghost use Rattle.drda_gateway.specs.Answer.{most_chain};
     ghost use Rattle.drda_gateway.specs.Session.{SessionState};
 
     ghost Value = { SessionState };
@@ -50,10 +61,10 @@ impl Model for Session {
       reader = s.reader;
       saying = drop s.said s.reply;
       sent = s.sent;
-      refused = s.refused;
+      ended = s.ended;
     } };
 
-    ghost invariant = { λ s. (s.taken ≤ length s.bytes) × (s.said ≤ length s.reply) × (s.fault ≡ s.reader.fault) };
+    ghost invariant = { λ s. (s.taken ≤ length s.bytes) × (s.said ≤ length s.reply) × (s.fault ≡ s.reader.fault) × (s.reader.limit ≡ most_chain) };
 }
 
 impl Session {
@@ -71,7 +82,7 @@ impl Session {
             reply: Octets::new(alloc),
             said: 0,
             sent: Octets::new(alloc),
-            refused: None,
+            ended: None,
         }
     }
 
@@ -95,7 +106,7 @@ impl Session {
     pub fn can_take(&self) -> bool
         ensures { result ≡ can_take self.now }
     {
-        !self.is_saying() && self.refused.is_none() && self.taken < self.bytes.len()
+        !self.is_saying() && self.ended.is_none() && self.taken < self.bytes.len()
     }
 
     /// Whether a line of the script named its application.
@@ -118,28 +129,25 @@ impl Session {
     {
         if self.is_saying() {
             Need::Say
-        } else if self.refused.is_some() {
+        } else if self.ended.is_some() {
             Need::Done
         } else {
             Need::App
         }
     }
 
-    /// The place at which its bytes were refused, once it has ended.
-    pub fn end(&self) -> Option<u64>
+    /// How it ended, once its closing reply is said.
+    pub fn end(&self) -> Option<End>
         ensures { result ≡ end_of self.now }
     {
-        match self.need() {
-            Need::Done => self.refused,
-            Need::App | Need::Say => None,
-        }
+        if self.is_saying() { None } else { self.ended }
     }
 
-    /// Whether its bytes were refused.
-    pub fn is_refused(&self) -> bool
-        ensures { result ≡ is_some self.now.refused }
+    /// How it ended, also where its closing reply is being said.
+    pub fn ended(&self) -> Option<End>
+        ensures { result ≡ self.now.ended }
     {
-        self.refused.is_some()
+        self.ended
     }
 
     /// How many bytes of the reply are left to say.
@@ -175,7 +183,7 @@ impl Session {
         let end = self.said + count.min(left);
         self.sent.push_all(&self.reply.as_slice()[self.said..end])?;
         self.said = end;
-        if end == self.reply.len() && self.refused.is_none() {
+        if end == self.reply.len() && self.ended.is_none() {
             self.begin()?;
         }
         Ok(())
@@ -192,34 +200,41 @@ impl Session {
                     self.reply = reply;
                     self.said = 0;
                 }
-                None => self.refuse(placed.at)?,
+                None => self.close(
+                    End::Refused { place: placed.at },
+                    &syntax_reply(0, NOT_SUPPORTED),
+                )?,
             },
             None => {
                 if let Some(fault) = self.fault {
-                    self.refuse(place(fault))?;
+                    self.stop(fault)?;
                 }
             }
         }
         Ok(())
     }
 
-    /// Ends the session: its bytes are refused at this place, and the closing reply is what is left to say.
-    fn refuse(&mut self, at: u64) -> Result<(), NoMemory>
-        ensures { OnOk result (self.new ≡ refused_at at self.old) }
+    /// Ends the session for a fault of its reader.
+    fn stop(&mut self, fault: FeedFault) -> Result<(), NoMemory>
+        ensures { OnOk result (self.new ≡ closed (end_by fault) (fault_reply fault) self.old) }
     {
-        self.reply = Octets::of(self.alloc, &SYNTAX_REPLY)?;
-        self.said = 0;
-        self.refused = Some(at);
-        Ok(())
+        match fault {
+            FeedFault::Frame { at, why, corr } => self.close(
+                End::Refused { place: at },
+                &syntax_reply(corr, syntax_error(why)),
+            ),
+            FeedFault::TooLong { corr, .. } => self.close(End::Limit, &limit_reply(corr)),
+            FeedFault::NoMemory => Err(NoMemory),
+        }
     }
-}
 
-/// The place of a reader's fault.
-fn place(fault: FeedFault) -> u64
-    ensures { result ≡ place_of fault }
-{
-    match fault {
-        FeedFault::Frame { at, .. } | FeedFault::TooLong { at, .. } => at,
-        FeedFault::NoMemory => 0,
+    /// Ends the session: the closing reply is what is left to say.
+    fn close(&mut self, end: End, reply: &[u8]) -> Result<(), NoMemory>
+        ensures { OnOk result (self.new ≡ closed end reply.now self.old) }
+    {
+        self.reply = Octets::of(self.alloc, reply)?;
+        self.said = 0;
+        self.ended = Some(end);
+        Ok(())
     }
 }

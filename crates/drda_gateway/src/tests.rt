@@ -1,5 +1,8 @@
 use crate::play::play;
+use crate::report::report;
+use crate::script::Line;
 use crate::std_ends::{StdSink, StdSource};
+use crate::world::run_script;
 use link_ends::{Failed, Marks, MemSink, MemSource, NoMemory, Octets, Sink, Source};
 use std::alloc::Global;
 use std::io::{self, Read, Write};
@@ -51,40 +54,108 @@ fn answers_by_causes(rt: HostRuntime) -> Result<(), Fail> {
     Ok(())
 }
 
-#[test]
-fn pieces_make_no_difference(rt: HostRuntime) -> Result<(), Fail> {
-    let alloc = rt.alloc();
-    let mut text = String::from_str(alloc, GREETING)?;
-    for _ in 0..10 {
+/// Whether an application that sends these bytes comes to these lines, where they are taken together and where they are
+/// taken one by one.
+fn comes_to(alloc: Global, bytes: &str, lines: &str) -> Result<bool, NoMemory> {
+    let report = format!(in alloc; "{lines}count commits 0 dials 0 reuses 0 losses 0\n")?;
+    let mut text = format!(in alloc;
+        "rdb SAMPLE\ncap 1\nmember 1 1\napp 1 {bytes}\nsettle 100000\n"
+    )?;
+    let together = plays(alloc, "", text.as_str(), (&[], &[]), 0, report.as_str())?;
+    text = format!(in alloc; "rdb SAMPLE\ncap 1\nmember 1 1\napp 1 {bytes}\n")?;
+    for _ in 0..bytes.len() / 2 {
         text.push_str("take 1 1\n")?;
     }
     text.push_str("settle 100000\n")?;
-    assert!(rt; plays(alloc, "", text.as_str(), (&[], &[]), 0, GREETED)?);
+    let singly = plays(alloc, "", text.as_str(), (&[], &[]), 0, report.as_str())?;
+    Ok(together && singly)
+}
+
+#[test]
+fn answers_every_spelling(rt: HostRuntime) -> Result<(), Fail> {
+    let alloc = rt.alloc();
+    let greeted =
+        "app 1 sent 0027D003000100211443000A1147C4D9C4C1C7E6000B116DC7C1E3C5E6C1E80008115AC7E6F0F1\napp 1 open\nlog answer 1\n";
+    let too_low =
+        "app 1 sent 0018D0020001001212100006114900080008140424070007\napp 1 open\nlog answer 1\n";
+    let awaits = "app 1 sent -\napp 1 open\n";
+    let rows = [
+        ("000AD001000100041041", greeted),
+        ("000AD021000100041041", greeted),
+        ("8008D0010001000400041041", greeted),
+        ("8006D00100018003000005041041", greeted),
+        ("000AD001000180041041", greeted),
+        ("000ED00100018008104100000000", greeted),
+        ("8008D001000180080008104100000000", greeted),
+        ("0012D0010001000C10410008140424070006", too_low),
+        ("0009D00100010004", awaits),
+        ("8008D00100010004", awaits),
+    ];
+    for (bytes, lines) in rows {
+        assert!(rt; comes_to(alloc, bytes, lines)?, "{bytes}");
+    }
     Ok(())
 }
 
 #[test]
-fn refuses_low_levels_and_other_bytes(rt: HostRuntime) -> Result<(), Fail> {
+fn refuses_other_bytes(rt: HostRuntime) -> Result<(), Fail> {
     let alloc = rt.alloc();
-    let header = "rdb SAMPLE\ncap 1\nmember 1 1\n";
-    let too_low =
-        "app 1 sent 0018D0020001001212100006114900080008140424070007\napp 1 open\nlog answer 1\n";
-    let syntax =
-        "app 1 sent 0015D0020000000F124C0006114900080005114A04\napp 1 ended syntax 0\nlog error 1 syntax\nlog answer 1\n";
     let rows = [
-        ("0012D0010001000C10410008140424070006", too_low),
-        ("0005", syntax),
-        ("000AD101000100041041", syntax),
-        ("000AD001000100041042", syntax),
+        // no DSS: its length, its third byte, its format, or a further length
+        ("0005D001000100041041", "0000", "01", 0),
+        ("8005", "0000", "01", 0),
+        ("000AD105000100041041", "0000", "03", 2),
+        ("000AD005000100041041", "0000", "04", 3),
+        ("000AD002000100041041", "0000", "04", 3),
+        ("000AD081000100041041", "0000", "04", 3),
+        ("000AD011000100041041", "0000", "04", 3),
+        ("8008D001000700040002", "0007", "05", 8),
+        ("8006D0010107800400040000", "0107", "05", 10),
+        // a DSS that is no lone EXCSAT
+        ("000AD001000100041042", "0000", "04", 0),
+        ("000AD041000100041041", "0000", "04", 0),
+        ("000AD003000100041041", "0000", "04", 0),
+        ("0006D0010001", "0000", "04", 0),
+        ("0009D0010001000410", "0000", "04", 0),
     ];
-    for (bytes, lines) in rows {
-        let text = format!(in alloc; "{header}app 1 {bytes}\nsettle 100000\n")?;
-        let report = format!(in alloc; "{lines}count commits 0 dials 0 reuses 0 losses 0\n")?;
-        assert!(rt;
-            plays(alloc, "", text.as_str(), (&[], &[]), 0, report.as_str())?,
-            "{bytes}"
-        );
+    for (bytes, number, code, place) in rows {
+        let lines = format!(in alloc;
+            "app 1 sent 0015D002{number}000F124C0006114900080005114A{code}\napp 1 ended syntax {place}\nlog error 1 syntax\nlog answer 1\n"
+        )?;
+        assert!(rt; comes_to(alloc, bytes, lines.as_str())?, "{bytes}");
     }
+    Ok(())
+}
+
+#[test]
+fn places_count_from_the_beginning(rt: HostRuntime) -> Result<(), Fail> {
+    let alloc = rt.alloc();
+    let lines =
+        "app 1 sent 0027D003000100211443000A1147C4D9C4C1C7E6000B116DC7C1E3C5E6C1E80008115AC7E6F0F10015D0020000000F124C0006114900080005114A03\napp 1 ended syntax 12\nlog answer 1\nlog error 1 syntax\nlog answer 1\n";
+    let bytes = "000AD001000100041041000AD101000200041041";
+    assert!(rt; comes_to(alloc, bytes, lines)?);
+    Ok(())
+}
+
+// A script is too short for this, so the lines are made here: one DSS of full segments, none of which is its last.
+#[test]
+fn a_chain_past_the_limit_ends_its_session(rt: HostRuntime) -> Result<(), Fail> {
+    let alloc = rt.alloc();
+    let mut bytes = Octets::of(alloc, &[0xFF, 0xFF, 0xD0, 0x01, 0x00, 0x07])?;
+    bytes.push_all(&[0; 32_761])?;
+    for _ in 0..512 {
+        bytes.push_all(&[0xFF, 0xFF])?;
+        bytes.push_all(&[0; 32_765])?;
+    }
+    let lines = [
+        Line::App { app: 1, bytes },
+        Line::Settle { budget: 100_000 },
+    ];
+    let world = run_script(alloc, &lines)?;
+    let told = report(alloc, &world)?;
+    let limit =
+        "app 1 sent 0010D0020007000A1233000611490008\napp 1 ended limit request\nlog error 1 limit\nlog answer 1\ncount commits 0 dials 0 reuses 0 losses 0\n";
+    assert!(rt; told.as_slice() == limit.as_bytes());
     Ok(())
 }
 

@@ -1,10 +1,10 @@
 ghost use Rattle.std.specs.Prelude.{◌≡◌, ◌++◌, length, position, IfOk, OnOk};
-ghost use Rattle.drda_gateway.specs.World.{after, after_all, entry_if, line_events, settle_events, start_world, world_of, Steps};
+ghost use Rattle.drda_gateway.specs.World.{after, after_all, end_entries, line_events, settle_events, start_world, world_of, Steps};
 ghost use Rattle.drda_gateway.specs.Session.{can_take, is_saying};
 ghost use Rattle.drda_gateway.specs.World.{Append, Take, Say};
 
 use crate::script::Line;
-use crate::session::Session;
+use crate::session::{End, Session};
 use link_ends::NoMemory;
 use std::alloc::Global;
 use std::marker::Model;
@@ -15,13 +15,22 @@ const APPLICATIONS: usize = 64;
 /// How many bytes an event of a settle moves at most.
 const MOST_MOVED: u32 = 65536;
 
+/// Why a session ended, in a word.
+#[derive(Clone, Copy, Debug, PartialEq, Eq)]
+pub enum ErrorWord {
+    /// Its bytes were refused.
+    Syntax,
+    /// A chain passed the limit.
+    Limit,
+}
+
 /// What the log says of an application.
 #[derive(Clone, Copy, Debug, PartialEq, Eq)]
 pub enum Entry {
     /// The last byte of a reply was said.
     Answer { app: u32 },
-    /// Its bytes were refused.
-    Error { app: u32 },
+    /// Its session ended.
+    Error { app: u32, word: ErrorWord },
 }
 
 /// All sessions, and the log of what they did.
@@ -82,8 +91,8 @@ impl World {
             return Ok(());
         }
         session.take(count as usize)?;
-        let refused = session.is_refused();
-        push_if(&mut self.log, refused, Entry::Error { app })
+        let ended = session.ended();
+        log_end(&mut self.log, app, ended)
     }
 
     /// Says at most so many bytes of the reply to an application, if one is being said.
@@ -98,12 +107,18 @@ impl World {
         if !session.is_saying() {
             return Ok(());
         }
-        let was_refused = session.is_refused();
+        let before = session.ended();
         let answers = session.left_to_say() <= count as usize;
         session.say(count as usize)?;
-        let refused = session.is_refused() && !was_refused;
-        push_if(&mut self.log, answers, Entry::Answer { app })?;
-        push_if(&mut self.log, refused, Entry::Error { app })
+        let ended = if before.is_none() {
+            session.ended()
+        } else {
+            None
+        };
+        if answers {
+            self.log.push(Entry::Answer { app })?;
+        }
+        log_end(&mut self.log, app, ended)
     }
 
     /// At most so many events, each the first that can be taken when it comes: a say before a take, a lower application
@@ -190,12 +205,15 @@ fn first_to_take(sessions: &[Session]) -> Option<usize>
     sessions.iter().position(|session| session.can_take())
 }
 
-/// Appends an entry, where something happened.
-fn push_if(log: &mut Vec<Entry>, happened: bool, entry: Entry) -> Result<(), NoMemory>
-    ensures { OnOk result (log.new.items ≡ log.old.items ++ entry_if happened entry) }
+/// Logs how a session ended, where it has.
+fn log_end(log: &mut Vec<Entry>, app: u32, ended: Option<End>) -> Result<(), NoMemory>
+    ensures { OnOk result (log.new.items ≡ log.old.items ++ end_entries app ended) }
 {
-    if happened {
-        log.push(entry)?;
-    }
+    let word = match ended {
+        None => return Ok(()),
+        Some(End::Refused { .. }) => ErrorWord::Syntax,
+        Some(End::Limit) => ErrorWord::Limit,
+    };
+    log.push(Entry::Error { app, word })?;
     Ok(())
 }

@@ -1,6 +1,7 @@
--- A list that only grows.
-use Rattle.std.proofs.Common.{◌≤◌, List, ◌++◌, length, ap, ◌∙◌, arith}
+-- A list that only grows: the old one begins the new one, and what holds of each element stays so.
+use Rattle.std.proofs.Common.{◌≤◌, List, [], ◌∷◌, ◌++◌, length, ap, ◌∙◌, arith}
 use Rattle.std.proofs.lemmas.List.{take-append-le, length-take, take_all}
+use Rattle.std.specs.List.{AllByRecursion}
 use Rattle.dss_frame.specs.Scan.{Extends}
 
 pub Extends-same : {X : Type 0} → (xs : List X) → Extends xs xs
@@ -10,3 +11,7 @@ pub Extends-append : {X : Type 0} → (xs ys zs : List X) → Extends xs ys → 
 Extends-append xs ys zs h =
     let within : length xs ≤ length ys = omega (arith, length-take (length xs) ys, ap length h) in
     take-append-le (length xs) ys zs within ∙ h
+
+pub all_push : {X : Type 0} → (P : X → Type 0) (xs : List X) (x : X) → AllByRecursion P xs → P x → AllByRecursion P (xs ++ x ∷ [])
+all_push P [] x all p = (p, tt)
+all_push P (y ∷ xs) x all p = (all.0, all_push P xs x all.1 p)

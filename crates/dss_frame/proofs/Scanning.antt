@@ -1,79 +1,143 @@
--- A scan over the bytes of the DSSs that have begun, step by step.
-use Rattle.std.proofs.Common.{◌≡◌, ℕ, ◌+◌, ◌-◌, ◌≤◌, true, false, List, [], ◌∷◌, ◌++◌, length, take, drop, slice_range, Option, Some, None, sym, ap, subst, ◌∙◌, arith}
-use Rattle.std.proofs.lemmas.List.{take_rest, drop-drop, length-drop}
-use Rattle.std.proofs.lemmas.Bool.{true≢false}
+-- The scan over all bytes of the DSSs that have begun, one DSS after another.
+use Rattle.std.proofs.Common.{◌≡◌, ℕ, ◌+◌, ◌-◌, ◌≤◌, Bool, true, false, cond, List, [], ◌∷◌, ◌++◌, length, take, drop, Option, Some, None, refl, sym, ap, subst, ◌∙◌, arith}
+use Rattle.std.proofs.lemmas.List.{length-drop, length-take, drop-drop, drop_all, take_rest}
+use Rattle.dss_frame.specs.declared.dss.Side.{Side}
+use Rattle.dss_frame.specs.declared.dss.Dss.{Dss}
 use Rattle.dss_frame.specs.declared.dss.Placed.{Placed}
-use Rattle.dss_frame.specs.declared.scan.Scan.{Scan}
 use Rattle.dss_frame.specs.declared.fault.FeedFault.{FeedFault}
-use Rattle.dss_frame.specs.Reading.{is_open, is_plain, request_of, further_on, View, not_plain, fed}
-use Rattle.dss_frame.specs.Scan.{IsJudgedAt, fault_of, at_place, left_by, Scanned}
-use Rattle.dss_frame.proofs.Judging.{plain_form}
-use Rattle.dss_frame.proofs.Reading.{scan-whole, scan-wrong, scan-open, fed-begun}
+use Rattle.dss_frame.specs.declared.fault.FeedFault.TheVariants.{Frame, TooLong, NoMemory}
+use Rattle.dss_frame.specs.declared.extent.Extent.TheVariants.{Ends}
+use Rattle.dss_frame.specs.declared.step.Position.{Position}
+use Rattle.dss_frame.specs.declared.step.Step.{Step}
+use Rattle.dss_frame.specs.declared.step.Step.TheVariants.{Waits, Reads, Stops}
+use Rattle.dss_frame.specs.declared.scan.Scan.{Scan}
+use Rattle.dss_frame.specs.Segments.{extent_of, dss_of}
+use Rattle.dss_frame.specs.Kept.{IsWithin}
+use Rattle.dss_frame.specs.Reading.{View, fed, Stopped, step_of, position_after, read_on, read_all}
+use Rattle.dss_frame.specs.Scan.{at_position, Scanned}
+use Rattle.dss_frame.proofs.Extending.{all_push}
+use Rattle.dss_frame.proofs.Judging.{whole_dss}
+use Rattle.dss_frame.proofs.Whole.{ends_take, dss_size}
+use Rattle.dss_frame.proofs.NextStep.{IsRead, is_read, step_told}
+use Rattle.dss_frame.proofs.Pieces.{on_waits, all_reads, all_stops, on_ends, fed_stopped, fed_none}
 
--- the bytes from a place on, as the code takes them, and a part of them
-rest_is : (bytes : List ℕ) (begins : ℕ) → take (length bytes - begins) (drop begins bytes) ≡ drop begins bytes
-rest_is bytes begins = take_rest bytes begins
+-- ---- reading goes on from there
 
-part_is : (bytes : List ℕ) (begins n : ℕ) → take (begins + n - begins) (drop begins bytes) ≡ take n (drop begins bytes)
-part_is bytes begins n = let e : begins + n - begins ≡ n = omega arith in ap (λ (k : ℕ). take k (drop begins bytes)) e
+pub record ReadsOn (side : Side) (limit : ℕ) (bytes : List ℕ) (first here : Position) (old now : List Placed) (begins : ℕ) : Type 0 where
+  pub within : begins ≤ length bytes
+  pub same : read_all (at_position side limit here now (drop begins bytes)) ≡ read_all (at_position side limit first old bytes)
 
-judged_at : (bytes : List ℕ) (begins n : ℕ) → IsJudgedAt (take (length bytes - begins) (drop begins bytes)) n → IsJudgedAt (drop begins bytes) n
-judged_at bytes begins n h = subst (λ (xs : List ℕ). IsJudgedAt xs n) (rest_is bytes begins) h
+-- what the code takes is the rest of the bytes
+pub step_at : (side : Side) (position : Position) (bytes : List ℕ) (begins : ℕ) (step : Step) → step ≡ step_of side position (take (length bytes - begins) (drop begins bytes)) → step_of side position (drop begins bytes) ≡ step
+step_at side position bytes begins step e = sym (e ∙ ap (step_of side position) (take_rest bytes begins))
 
-pub scanned-wrong : (old now : List Placed) (at here : ℕ) (bytes : List ℕ) (begins n : ℕ)
-    → fed (at_place now here) (drop begins bytes) ≡ fed (at_place old at) bytes
-    → IsJudgedAt (take (length bytes - begins) (drop begins bytes)) n → is_plain (take (begins + n - begins) (drop begins bytes)) ≡ false
-    → begins ≤ length bytes
-    → Scanned old at bytes now (record { begins = begins; ends = begins + n; at = here; wrong = true })
-scanned-wrong old now at here bytes begins n so_far h plain within =
-    let j = judged_at bytes begins n h in
-    let stop = scan-wrong now here (drop begins bytes) n j (sym (ap is_plain (part_is bytes begins n)) ∙ plain) in
+pub read_at : (side : Side) (position : Position) (bytes : List ℕ) (begins count : ℕ) → Reads count ≡ step_of side position (take (length bytes - begins) (drop begins bytes)) → IsRead side position (drop begins bytes) count
+read_at side position bytes begins count e = is_read side position (drop begins bytes) count (step_at side position bytes begins (Reads count) e)
+
+pub scanned_waits : (side : Side) (limit : ℕ) (bytes : List ℕ) (first here : Position) (old now : List Placed) (begins : ℕ) → ReadsOn side limit bytes first here old now begins → step_of side here (drop begins bytes) ≡ Waits → Scanned side limit first bytes old now (record { begins = begins; position = here; fault = None })
+scanned_waits side limit bytes first here old now begins h e = record {
+  within = h.within;
+  reads = sym (on_waits (length (drop begins bytes)) (at_position side limit here now (drop begins bytes)) e) ∙ h.same;
+}
+
+pub scanned_stops : (side : Side) (limit : ℕ) (bytes : List ℕ) (first here : Position) (old now : List Placed) (begins : ℕ) (fault : FeedFault) → ReadsOn side limit bytes first here old now begins → step_of side here (drop begins bytes) ≡ Stops fault → Scanned side limit first bytes old now (record { begins = length bytes; position = here; fault = Some fault })
+scanned_stops side limit bytes first here old now begins fault h e = record {
+  within = omega arith;
+  reads =
+      ap (λ (xs : List ℕ). record { side = side; limit = limit; whole = now; position = here; «open» = xs; fault = Some fault }) (drop_all (length bytes) bytes (omega arith))
+      ∙ all_stops (at_position side limit here now (drop begins bytes)) fault e ∙ h.same;
+}
+
+pub reads_more : (side : Side) (limit : ℕ) (bytes : List ℕ) (first here : Position) (old now : List Placed) (begins n : ℕ) (d : Dss) → ReadsOn side limit bytes first here old now begins → step_of side here (drop begins bytes) ≡ Reads n → d ≡ dss_of (take n (drop begins bytes))
+    → ReadsOn side limit bytes first (position_after limit here d n) old (now ++ record { at = here.at; dss = d } ∷ []) (begins + n)
+reads_more side limit bytes first here old now begins n d h e is =
+    let rest : List ℕ = drop begins bytes in
+    let read = is_read side here rest n e in
     record {
-      begins = omega arith;
-      ends = omega (arith, j.within, length-drop begins bytes);
-      reads = sym so_far ∙ stop ∙ ap (λ (xs : List ℕ). record { whole = now; at = here; «open» = xs; fault = Some (not_plain here) }) (sym (part_is bytes begins n));
-      «open» = λ e. absurd (true≢false e);
+      within = omega (arith, h.within, read.within, length-drop begins bytes);
+      same =
+          ap (λ (xs : List ℕ). read_all (at_position side limit (position_after limit here d n) (now ++ record { at = here.at; dss = d } ∷ []) xs)) (sym (drop-drop n begins bytes))
+          ∙ ap (λ (x : Dss). read_all (at_position side limit (position_after limit here x n) (now ++ record { at = here.at; dss = x } ∷ []) (drop n rest))) is
+          ∙ all_reads (at_position side limit here now rest) n e ∙ h.same;
     }
 
-pub scanned-open : (old now : List Placed) (at here : ℕ) (bytes : List ℕ) (begins : ℕ)
-    → fed (at_place now here) (drop begins bytes) ≡ fed (at_place old at) bytes
-    → is_open (take (length bytes - begins) (drop begins bytes)) ≡ true
-    → begins ≤ length bytes
-    → Scanned old at bytes now (record { begins = begins; ends = length bytes; at = here; wrong = false })
-scanned-open old now at here bytes begins so_far waits within =
-    let waits_there : is_open (drop begins bytes) ≡ true = sym (ap is_open (rest_is bytes begins)) ∙ waits in
-    record {
-      begins = within;
-      ends = omega arith;
-      reads = sym so_far ∙ scan-open now here (drop begins bytes) waits_there ∙ ap (λ (xs : List ℕ). record { whole = now; at = here; «open» = xs; fault = None }) (sym (rest_is bytes begins));
-      «open» = λ _. waits;
-    }
+pub whole_part : (side : Side) (bytes : List ℕ) (n : ℕ) → extent_of side bytes ≡ Ends n → extent_of side (take n bytes) ≡ Ends (length (take n bytes))
+whole_part side bytes n e =
+    let whole = whole_dss side bytes n e in
+    let size : length (take n bytes) ≡ n = omega (arith, length-take n bytes, whole.within) in
+    ends_take side bytes n e ∙ ap (λ (k : ℕ). Ends k) (sym size)
 
-pub scanned-more : (old now : List Placed) (at here : ℕ) (bytes : List ℕ) (begins n : ℕ)
-    → fed (at_place now here) (drop begins bytes) ≡ fed (at_place old at) bytes
-    → IsJudgedAt (take (length bytes - begins) (drop begins bytes)) n → is_plain (take (begins + n - begins) (drop begins bytes)) ≡ true
-    → fed (at_place (now ++ record { at = here; dss = request_of (take (begins + n - begins) (drop begins bytes)) } ∷ []) (further_on here n)) (drop (begins + n) bytes) ≡ fed (at_place old at) bytes
-scanned-more old now at here bytes begins n so_far h plain =
-    let j = judged_at bytes begins n h in
-    let same = part_is bytes begins n in
-    let step = scan-whole now here (drop begins bytes) n j (sym (ap is_plain same) ∙ plain) in
-    ap (λ (xs : List ℕ). fed (at_place (now ++ record { at = here; dss = request_of xs } ∷ []) (further_on here n)) (drop (begins + n) bytes)) same
-    ∙ ap (fed (at_place (now ++ record { at = here; dss = request_of (take n (drop begins bytes)) } ∷ []) (further_on here n))) (sym (drop-drop n begins bytes))
-    ∙ sym step ∙ so_far
+-- ---- what is kept of the sizes
 
-pub plain_long : (bytes : List ℕ) → is_plain bytes ≡ true → 6 ≤ length bytes
-plain_long bytes plain = let f = plain_form bytes plain in omega (arith, f.least, f.len)
+abbrev Fits : ℕ → Placed → Type 0
+Fits limit placed = length placed.dss.body ≤ limit
 
--- what a piece leaves, by the scan of all bytes that have begun
-pub feed-scanned : (v : View) (p bytes : List ℕ) (new : List Placed) (s : Scan) → v.fault ≡ None → is_open v.open ≡ true → bytes ≡ v.open ++ p → Scanned v.whole v.at bytes new s → left_by new bytes s ≡ fed v p
-feed-scanned v p bytes new s e waits joined h =
-    sym h.reads ∙ ap (fed (at_place v.whole v.at)) joined ∙ sym (fed-begun v p e waits)
+room_within : (b : Bool) (room count limit : ℕ) → room ≤ limit → cond b (room - count) limit ≤ limit
+room_within true room count limit h = omega arith
+room_within false room count limit h = omega arith
 
--- the same, where the reader keeps the bytes that the scan names
-pub feed-left : (v : View) (p bytes kept : List ℕ) (new : List Placed) (s : Scan) (fault : Option FeedFault) → v.fault ≡ None → is_open v.open ≡ true → bytes ≡ v.open ++ p → Scanned v.whole v.at bytes new s
-    → kept ≡ slice_range bytes s.begins s.ends → fault ≡ fault_of s.wrong s.at
-    → record { whole = new; at = s.at; «open» = kept; fault = fault } ≡ fed v p
-feed-left v p bytes kept new s fault e waits joined h k f =
-    ap (λ (xs : List ℕ). record { whole = new; at = s.at; «open» = xs; fault = fault }) k
-    ∙ ap (λ (o : Option FeedFault). record { whole = new; at = s.at; «open» = slice_range bytes s.begins s.ends; fault = o }) f
-    ∙ feed-scanned v p bytes new s e waits joined h
+Keeps : View → View → Type 0
+Keeps v r = IsWithin v.limit v.whole v.position → IsWithin v.limit r.whole r.position
+
+on_within : (count : ℕ) (v : View) → IsWithin v.limit v.whole v.position → IsWithin v.limit (read_on count v).whole (read_on count v).position
+unfolding Keeps
+on_within =
+    on_ends Keeps (λ v h. h) (λ v r n step goes h.
+    let read = is_read v.side v.position v.open n step in
+    let d : Dss = dss_of (take n v.open) in
+    let size = dss_size (take n v.open) in
+    goes (record {
+      bodies = all_push (Fits v.limit) v.whole (record { at = v.position.at; dss = d }) h.bodies (omega (arith, size, length-take n v.open, read.room, h.room));
+      room = room_within d.chained v.position.room n v.limit h.room;
+    })) (λ v fault step h. h)
+
+-- what a scan leaves is within the limit, where what it began with was
+pub scanned_within : (side : Side) (limit : ℕ) (position : Position) (bytes : List ℕ) (old new : List Placed) (s : Scan) → Scanned side limit position bytes old new s → IsWithin limit old position → IsWithin limit new s.position
+scanned_within side limit position bytes old new s scanned h =
+    subst (λ (v : View). IsWithin limit v.whole v.position) (sym scanned.reads) (on_within (length bytes) (at_position side limit position old bytes) h)
+
+-- ---- a piece
+
+-- a fault is answered again
+pub stopped_again : (fault : FeedFault) (v : View) (piece : List ℕ) → v.fault ≡ Some fault → Stopped fault v v piece
+stopped_again NoMemory v piece is = refl
+stopped_again (Frame at why corr) v piece is = (sym (fed_stopped v piece (Frame at why corr) is), is)
+stopped_again (TooLong at corr) v piece is = (sym (fed_stopped v piece (TooLong at corr) is), is)
+
+-- what a piece leaves, by the scan of all bytes that have begun, where the reader keeps the bytes that it left
+pub fed_left : (v : View) (piece bytes kept : List ℕ) (new : List Placed) (s : Scan) → v.fault ≡ None → bytes ≡ v.open ++ piece → Scanned v.side v.limit v.position bytes v.whole new s → kept ≡ drop s.begins bytes
+    → record { side = v.side; limit = v.limit; whole = new; position = s.position; «open» = kept; fault = s.fault } ≡ fed v piece
+fed_left v piece bytes kept new s none joined h left =
+    ap (λ (xs : List ℕ). record { side = v.side; limit = v.limit; whole = new; position = s.position; «open» = xs; fault = s.fault }) left
+    ∙ h.reads
+    ∙ ap (λ (xs : List ℕ). read_all (at_position v.side v.limit v.position v.whole xs)) joined
+    ∙ ap (λ (o : Option FeedFault). read_all (record { side = v.side; limit = v.limit; whole = v.whole; position = v.position; «open» = v.open ++ piece; fault = o })) (sym none)
+    ∙ sym (fed_none v piece none)
+
+-- ---- reading takes no memory that can be wanted
+
+abbrev IsTold : Option FeedFault → Type 0
+IsTold fault = fault ≡ Some NoMemory → ⊥
+
+fault_is : (fault : FeedFault) → Some fault ≡ Some NoMemory → Stops fault ≡ Stops NoMemory
+fault_is fault e = cc
+
+on_told : (count : ℕ) (v : View) → IsTold v.fault → IsTold (read_on count v).fault
+on_told =
+    on_ends (λ v r. IsTold v.fault → IsTold r.fault) (λ v told. told) (λ v r n step goes told. goes told)
+    (λ v fault step told is. step_told v.side v.position v.open (step ∙ fault_is fault is))
+
+none_told : IsTold None
+none_told e = cc
+
+stopped_by : (fault : FeedFault) (old new : View) (piece : List ℕ) → IsTold (Some fault) → new ≡ fed old piece → new.fault ≡ Some fault → Stopped fault old new piece
+stopped_by NoMemory old new piece told is fault = absurd (told refl)
+stopped_by (Frame at why corr) old new piece told is fault = (is, fault)
+stopped_by (TooLong at corr) old new piece told is fault = (is, fault)
+
+-- a fault that the scan came to
+pub stopped_there : (side : Side) (limit : ℕ) (position : Position) (bytes : List ℕ) (old_whole whole : List Placed) (s : Scan) (fault : FeedFault) (old new : View) (piece : List ℕ)
+    → Scanned side limit position bytes old_whole whole s → s.fault ≡ Some fault → new ≡ fed old piece → new.fault ≡ Some fault → Stopped fault old new piece
+stopped_there side limit position bytes old_whole whole s fault old new piece scanned is same there =
+    let told = on_told (length bytes) (at_position side limit position old_whole bytes) none_told in
+    stopped_by fault old new piece (λ e. told (sym (ap (λ (v : View). v.fault) scanned.reads) ∙ is ∙ e)) same there

@@ -16,7 +16,8 @@ pub further-nil : (rest : List ℕ) → length rest ≡ 0 → further_segments r
 unfolding further
 further-nil rest none = rw (nil_from_length rest none) refl
 
-same_test : (k m : ℕ) → k ≡ further_count m → ltb 0 k ≡ ltb 0 m
+-- there is a further segment where there are bytes for one
+pub same_test : (k m : ℕ) → k ≡ further_count m → ltb 0 k ≡ ltb 0 m
 same_test k m e =
     elim (cases_lt 0 m) [
       | inl some ↦ lt-ltb 0 k (omega arith) ∙ sym (lt-ltb 0 m some)

@@ -1,126 +1,104 @@
--- How bytes are read as DSSs, one byte after the other. Only DSSs of the plain form are read: one segment, of a request
--- that isn't chained. The layout is that of DRDA, volume 3, DSS; what a reader is seen as, and places, are this project's
--- own.
-use Rattle.std.specs.Prelude.{ℕ, ◌≡◌, ◌≢◌, ◌+◌, ◌-◌, ◌*◌, ◌^◌, ◌<◌, ◌≤◌, ◌&&◌, ◌||◌, ◌==◌, Bool, false, List, [], ◌∷◌, ◌++◌, length, drop, slice_index, min, nat_lt, nat_le, if◌then◌else◌, Option, Some, None}
-use Rattle.std.specs.List.{flat_map}
-use Rattle.dss_frame.specs.declared.dss.Kind.TheVariants.{Request}
+-- How bytes are read as DSSs, in whatever pieces they come. What a reader is seen as, its limit and its places are this
+-- project's own; what a DSS is stands in Segments.antt and Spelling.antt.
+use Rattle.std.specs.Prelude.{ℕ, zero, suc, ◌≡◌, ◌+◌, ◌-◌, ◌^◌, List, [], ◌∷◌, ◌++◌, length, take, drop, min, is_some, nat_lt, if◌then◌else◌, Option, Some, None}
+use Rattle.dss_frame.specs.declared.dss.Side.{Side}
 use Rattle.dss_frame.specs.declared.dss.Dss.{Dss}
 use Rattle.dss_frame.specs.declared.dss.Placed.{Placed}
-use Rattle.dss_frame.specs.declared.fault.Why.TheVariants.{Format}
 use Rattle.dss_frame.specs.declared.fault.FeedFault.{FeedFault}
-use Rattle.dss_frame.specs.declared.fault.FeedFault.TheVariants.{Frame, NoMemory}
-use Rattle.dss_frame.specs.Dss.{canonical}
+use Rattle.dss_frame.specs.declared.fault.FeedFault.TheVariants.{Frame, TooLong, NoMemory}
+use Rattle.dss_frame.specs.declared.extent.Extent.{Extent}
+use Rattle.dss_frame.specs.declared.extent.Extent.TheVariants.{Awaits, Ends, Fails}
+use Rattle.dss_frame.specs.declared.step.Position.{Position}
+use Rattle.dss_frame.specs.declared.step.Step.{Step}
+use Rattle.dss_frame.specs.declared.step.Step.TheVariants.{Waits, Reads, Stops}
+use Rattle.dss_frame.specs.Segments.{number_at, extent_of, dss_of}
 
--- the number in the two bytes at a place, the higher first
-abbrev pub number_at : ℕ → List ℕ → ℕ
-number_at place bytes = 256 * slice_index bytes place + slice_index bytes (place + 1)
-
--- DRDA, volume 3, DSS: a length of one segment, whose body has at least four bytes, as a DDM object has.
-abbrev pub is_plain_length : ℕ → Bool
-is_plain_length n = nat_le 10 n && nat_le n 32767
-
--- Whether more bytes are awaited before the DSS is judged: its two bytes of length, and then, where it is a length of
--- the plain form, as many bytes as it says. When to judge is this project's choice.
-unfoldable pub is_open : List ℕ → Bool
-is_open bytes = nat_lt (length bytes) 2 || (is_plain_length (number_at 0 bytes) && nat_lt (length bytes) (number_at 0 bytes))
-
--- DRDA, volume 3, DSS: whether the bytes are a DSS of the plain form: its length, D0, 01 for a request that isn't
--- chained, two bytes of correlation number and a body.
-unfoldable pub is_plain : List ℕ → Bool
-is_plain bytes =
-    (is_plain_length (number_at 0 bytes) && length bytes == number_at 0 bytes)
-    && (slice_index bytes 2 == 208 && slice_index bytes 3 == 1)
-
--- the DSS that bytes of the plain form spell
-unfoldable pub request_of : List ℕ → Dss
-request_of bytes =
-    record { kind = Request; chained = false; same = false; go_on = false; corr = number_at 4 bytes; body = drop 6 bytes }
-
--- what is known of the DSS that begins with these bytes, which are all of it that came so far
-pub data Judged : Type 0 where
-  Open : Judged
-  Whole : Dss → Judged
-  Wrong : Judged
-
-unfoldable pub judged : List ℕ → Judged
-judged bytes = if is_open bytes then Open else if is_plain bytes then Whole (request_of bytes) else Wrong
-
--- a place so many bytes further on; places stand still at the greatest one, which is this project's choice
+-- a place so many bytes further on; places stand still at the greatest one
 abbrev pub further_on : ℕ → ℕ → ℕ
 further_on at bytes = min (at + bytes) (2 ^ 64 - 1)
 
--- What a reader has read: the DSSs that were not taken yet, the place where the DSS begins that isn't whole yet, its
--- bytes so far, and the fault that ends the reading.
+-- The correlation number of a fault at an offset of a DSS: its own where the fault stands behind it, else that of the DSS
+-- before it in the chain.
+abbrev pub number_for : Position → List ℕ → ℕ → ℕ
+number_for position bytes offset = if nat_lt offset 6 then position.before else number_at 4 bytes
+
+abbrev pub too_long : Position → List ℕ → FeedFault
+too_long position bytes = TooLong (further_on position.at position.room) (number_for position bytes position.room)
+
+-- What comes next where a DSS begins with these bytes: more are awaited, or it is whole, or a fault ends the reading. The
+-- first byte beyond the chain's limit is a fault, unless a field that is none of a DSS begins before it.
+abbrev pub step_by : Position → List ℕ → Extent → Step
+step_by position bytes Awaits = if nat_lt position.room (length bytes) then Stops (too_long position bytes) else Waits
+step_by position bytes (Ends count) = if nat_lt position.room count then Stops (too_long position bytes) else Reads count
+step_by position bytes (Fails offset why) =
+    if nat_lt offset position.room
+    then Stops (Frame (further_on position.at offset) why (number_for position bytes offset))
+    else Stops (too_long position bytes)
+
+abbrev pub step_of : Side → Position → List ℕ → Step
+step_of side position bytes = step_by position bytes (extent_of side bytes)
+
+-- What a reader has read.
 pub record View : Type 0 where
+  pub side : Side
+  -- how many bytes a chain may have
+  pub limit : ℕ
+  -- the DSSs that were not taken yet, each with the place of its first byte; it ends where the next one begins
   pub whole : List Placed
-  pub at : ℕ
+  -- where the DSS begins that isn't whole yet
+  pub position : Position
+  -- its bytes so far; none after a fault
   pub «open» : List ℕ
+  -- the fault that ended the reading
   pub fault : Option FeedFault
 
-abbrev pub start : View
-start = record { whole = []; at = 0; «open» = []; fault = None }
+-- the place where a stream begins, and with it a chain
+abbrev pub first_position : ℕ → Position
+first_position limit = record { at = 0; room = limit; before = 0 }
 
--- the fault of a DSS that begins at a place and isn't of the plain form
-abbrev pub not_plain : ℕ → FeedFault
-not_plain at = Frame at Format 0
+abbrev pub start : Side → ℕ → View
+start side limit =
+    record { side = side; limit = limit; whole = []; position = first_position limit; «open» = []; fault = None }
 
--- what a reader has read once a DSS of so many bytes is whole
-abbrev pub with_whole : Dss → ℕ → View → View
-with_whole d bytes v =
-    record v { whole = v.whole ++ record { at = v.at; dss = d } ∷ []; at = further_on v.at bytes; «open» = [] }
+-- where the DSS begins that follows one of so many bytes: in the same chain, or in the next one
+abbrev pub position_after : ℕ → Position → Dss → ℕ → Position
+position_after limit position d count =
+    record {
+      at = further_on position.at count;
+      room = if d.chained then position.room - count else limit;
+      before = if d.chained then d.corr else 0;
+    }
 
--- what was read once a DSS is judged, whose bytes so far these are
-abbrev pub after : Judged → View → List ℕ → View
-after Open v bytes = record v { «open» = bytes }
-after (Whole d) v bytes = with_whole d (length bytes) v
-after Wrong v bytes = record v { «open» = bytes; fault = Some (not_plain v.at) }
+-- the first so many bytes were read as this DSS
+abbrev pub with_dss : View → Dss → ℕ → View
+with_dss v d count =
+    record v {
+      whole = v.whole ++ record { at = v.position.at; dss = d } ∷ [];
+      position = position_after v.limit v.position d count;
+      «open» = drop count v.open;
+    }
 
--- what is read with one more byte, where no fault came before
-abbrev pub read_more : Option FeedFault → View → ℕ → View
-read_more (Some fault) v b = v
-read_more None v b = after (judged (v.open ++ b ∷ [])) v (v.open ++ b ∷ [])
+abbrev pub after_step : View → Step → (View → View) → View
+after_step v Waits more = v
+after_step v (Reads count) more = more (with_dss v (dss_of (take count v.open)) count)
+after_step v (Stops fault) more = record v { «open» = []; fault = Some fault }
 
--- what is read with one more byte; nothing is, once there is a fault
-unfoldable pub read_byte : View → ℕ → View
-read_byte v b = read_more v.fault v b
+-- The DSSs that are whole are read, at most so many of them, up to the first fault.
+unfoldable pub read_on : ℕ → View → View
+read_on zero v = v
+read_on (suc count) v = after_step v (step_of v.side v.position v.open) (read_on count)
 
--- what is read with the bytes of a piece, oldest first
+-- more bytes of the DSS that isn't whole yet
+abbrev pub with_bytes : View → List ℕ → View
+with_bytes v bytes = record v { «open» = v.open ++ bytes }
+
+-- a DSS has a byte at least, so there are no more of them than bytes
+abbrev pub read_all : View → View
+read_all v = read_on (length v.open) v
+
+-- what is read with the bytes of a piece; nothing is, once there is a fault
 unfoldable pub fed : View → List ℕ → View
-fed v [] = v
-fed v (b ∷ bytes) = fed (read_byte v b) bytes
-
--- the canonical spellings of DSSs, one after the other
-abbrev pub spelled : List Placed → List ℕ
-spelled placed = flat_map (λ p. canonical p.dss) placed
-
--- A DSS of the plain form whose body has a length that is read.
-pub record IsPlainRequest (d : Dss) : Type 0 where
-  pub kind : d.kind ≡ Request
-  pub chained : d.chained ≡ false
-  pub same : d.same ≡ false
-  pub go_on : d.go_on ≡ false
-  pub corr : d.corr < 2 ^ 16
-  pub least : 4 ≤ length d.body
-  pub greatest : length d.body ≤ 32761
-
--- From one place to another stand these DSSs, each of the plain form and where the one before it ends.
-abbrev pub AreRead : ℕ → List Placed → ℕ → Type 0
-AreRead from [] to = to ≡ from
-AreRead from (p ∷ placed) to =
-    (p.at ≡ from) × IsPlainRequest p.dss × AreRead (further_on from (length (canonical p.dss))) placed to
-
--- What was read is in the bytes: first the canonical spellings of the DSSs, then the bytes of the one that isn't whole.
--- Where there is no fault these are all bytes, and more are awaited; else the DSS there isn't of the plain form.
-pub record IsReadFrom (bytes : List ℕ) (v : View) : Type 0 where
-  pub unread : List ℕ
-  pub parts : bytes ≡ spelled v.whole ++ (v.open ++ unread)
-  pub placed : AreRead 0 v.whole v.at
-  pub all_read : v.fault ≡ None → (unread ≡ []) × (judged v.open ≡ Open)
-  pub stopped : v.fault ≢ None → (v.fault ≡ Some (not_plain v.at)) × (judged v.open ≡ Wrong)
-
--- a DSS of the plain form has one segment
-abbrev pub IsShort : Placed → Type 0
-IsShort placed = length placed.dss.body ≤ 32761
+fed v piece = if is_some v.fault then v else read_all (with_bytes v piece)
 
 -- the same with other DSSs, read before, in front
 abbrev pub behind : List Placed → View → View
@@ -128,6 +106,6 @@ behind front v = record v { whole = front ++ v.whole }
 
 -- what a reader has after a call that failed: after want of memory what it had, after another fault what the piece
 -- leaves
-abbrev pub Stops : FeedFault → View → View → List ℕ → Type 0
-Stops NoMemory old new piece = new ≡ old
-Stops fault old new piece = (new ≡ fed old piece) × (new.fault ≡ Some fault)
+abbrev pub Stopped : FeedFault → View → View → List ℕ → Type 0
+Stopped NoMemory old new piece = new ≡ old
+Stopped fault old new piece = (new ≡ fed old piece) × (new.fault ≡ Some fault)

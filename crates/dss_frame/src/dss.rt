@@ -11,6 +11,15 @@ pub enum Kind {
     Object,
 }
 
+/// Whose DSSs are read.
+#[derive(Clone, Copy, Debug, PartialEq, Eq)]
+pub enum Side {
+    /// Those of a requester: requests and objects.
+    Requests,
+    /// Those of a server: replies and objects.
+    Replies,
+}
+
 /// One DSS (data stream structure).
 #[derive(Debug, Drop)]
 pub struct Dss {

@@ -1,70 +1,66 @@
 ghost use Rattle.std.specs.Prelude.{◌≡◌, ◌≤◌, None, drop, length, slice_get, IfErr, IfSome, OnOk};
-ghost use Rattle.dss_frame.specs.Reading.{View, start, fed, Stops};
+ghost use Rattle.dss_frame.specs.Reading.{start, fed, Stopped};
 
-use crate::dss::Placed;
-use crate::fault::{FeedFault, Why};
-use crate::scan::{keep, read_all};
+use crate::dss::{Placed, Side};
+use crate::fault::FeedFault;
+use crate::scan::{keep_from, read_all};
+use crate::step::Position;
 use std::alloc::Global;
 use std::collections::VecDeque;
 use std::marker::Model;
 
-/// Whose DSSs a reader reads.
-#[derive(Clone, Copy, Debug, PartialEq, Eq)]
-pub enum Side {
-    /// Those of a requester: requests and objects.
-    Requests,
-    /// Those of a server: replies and objects.
-    Replies,
-}
-
-/// Reads DSSs from bytes that come in pieces. It is seen as the DSSs that were read and not taken yet, the place where
-/// the next one begins, the bytes of that one so far, and the fault that ended the reading.
+/// Reads DSSs from bytes that come in pieces. It is seen as the DSSs that were read and not taken yet, where the next one
+/// begins, the bytes of that one so far, and the fault that ended the reading.
 #[derive(Debug, Drop)]
 pub struct Reader {
     alloc: Global,
+    side: Side,
+    limit: u64,
     whole: VecDeque<Placed>,
-    at: u64,
+    position: Position,
     begun: Vec<u8>,
     fault: Option<FeedFault>,
 }
 
 impl Model for Reader {
-    ghost use Rattle.std.specs.Prelude.{◌≡◌, true};
-    ghost use Rattle.std.specs.Option.{ForNone};
-    ghost use Rattle.std.specs.List.{AllByRecursion};
-    ghost use Rattle.dss_frame.specs.Reading.{View, is_open, IsShort};
+    ghost use Rattle.dss_frame.specs.Reading.{View};
 
     ghost Value = { View };
 
-    ghost view = { λ r. record { whole = r.whole.items; at = r.at; «open» = r.begun.items; fault = r.fault } };
+    ghost use Rattle.dss_frame.specs.Kept.{IsWithin};
 
-    ghost invariant = { λ r. ForNone r.fault (is_open r.begun.items ≡ true) × AllByRecursion IsShort r.whole.items };
+    ghost view = { λ r. record { side = r.side; limit = r.limit; whole = r.whole.items; position = r.position; «open» = r.begun.items; fault = r.fault } };
+
+    ghost invariant = { λ r. IsWithin r.limit r.whole.items r.position };
 }
 
 impl Reader {
-    /// A reader at place 0, with nothing read. What it reads is stored in memory of this allocator. So far only requests
-    /// of one segment are read, so no chain passes a limit of one segment's length.
+    /// A reader at place 0, with nothing read, of the DSSs of one side. A chain has at most `limit` bytes. What it reads is
+    /// stored in memory of this allocator.
     pub fn new(alloc: Global, side: Side, limit: u64) -> Reader
-        requires requests { side ≡ Side.Requests }
-        requires segment { 32767 ≤ limit }
-        ensures { result ≡ start }
+        ensures { result ≡ start side limit }
     {
-        let _ = (side, limit);
         Reader {
             alloc,
+            side,
+            limit,
             whole: VecDeque::new(alloc),
-            at: 0,
+            position: Position::first(limit),
             begun: Vec::new(alloc),
             fault: None,
         }
     }
 
-    /// Reads the next piece. A fault other than NoMemory is answered again by each later call, and the DSSs that were
-    /// whole before it can still be taken.
+    /// Reads the next piece. `Frame` comes exactly where the bytes so far, however they go on, aren't whole DSSs, with the
+    /// place of the first field that admits none; `TooLong` exactly where a chain has more bytes than the limit, with the
+    /// place of the first byte beyond. The lower place decides, and `TooLong` at the same place. Either is answered again
+    /// by each later call, and the DSSs that were whole before it can still be taken. After `NoMemory` the reader is as
+    /// before.
     pub fn feed(&mut self, piece: &[u8]) -> Result<(), FeedFault>
         ensures ok { OnOk result (self.new ≡ fed self.old piece.now) }
         ensures no_fault { OnOk result (self.new.fault ≡ None) }
-        ensures err { IfErr result (λ e. Stops e self.old self.new piece.now) }
+        ensures err { IfErr result (λ e. Stopped e self.old self.new piece.now) }
+        ensures limit { self.new.limit ≡ self.old.limit }
     {
         if let Some(fault) = self.fault {
             return Err(fault);
@@ -72,20 +68,23 @@ impl Reader {
         let begun = self.begun.len();
         let whole = self.whole.len();
         self.begun.extend_from_slice(piece)?;
-        let Ok(scan) = read_all(self.alloc, self.begun.as_slice(), self.at, &mut self.whole) else {
+        let bytes = self.begun.as_slice();
+        let Ok(scan) = read_all(
+            self.alloc,
+            self.side,
+            self.limit,
+            self.position,
+            bytes,
+            &mut self.whole,
+        ) else {
             self.begun.truncate(begun);
             self.whole.truncate(whole);
             return Err(FeedFault::NoMemory);
         };
-        keep(&mut self.begun, scan.begins, scan.ends);
-        self.at = scan.at;
-        if scan.wrong {
-            let fault = FeedFault::Frame {
-                at: scan.at,
-                why: Why::Format,
-                corr: 0,
-            };
-            self.fault = Some(fault);
+        keep_from(&mut self.begun, scan.begins);
+        self.position = scan.position;
+        self.fault = scan.fault;
+        if let Some(fault) = scan.fault {
             return Err(fault);
         }
         Ok(())
@@ -95,7 +94,7 @@ impl Reader {
     pub fn take(&mut self) -> Option<Placed>
         ensures first { result ≡ slice_get self.old.whole 0 }
         ensures rest { self.new ≡ record self.old { whole = drop 1 self.old.whole } }
-        ensures short { IfSome result (λ placed. length placed.dss.body ≤ 32761) }
+        ensures within { IfSome result (λ placed. length placed.dss.body ≤ self.old.limit) }
     {
         self.whole.pop_front()
     }

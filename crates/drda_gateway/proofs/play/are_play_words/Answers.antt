@@ -1,5 +1,5 @@
-use Rattle.std.proofs.Common.{◌≡◌, ℕ, List, [], ◌∷◌, length, get_or, map, string_bytes, ap, sym, ◌∙◌, arith}
-use Rattle.std.specs.Prelude.{codes}
+use Rattle.std.proofs.Common.{◌≡◌, ℕ, List, [], ◌∷◌, length, get_or, map, string_bytes, ap, sym, ◌∙◌, arith, rules}
+use Rattle.std.specs.Prelude.{codes, ◌↔◌, IsTrue}
 use Rattle.drda_gateway.proofs.play.are_play_words.Goals as goal
 
 -- a list of one element
@@ -12,9 +12,10 @@ pub returns-in-len1 : goal.returns-in-len1
 returns-in-len1 c =
     let word = c.word-item.result in
     let one : map string_bytes c.args.words.now ≡ string_bytes word ∷ [] = only_one string_bytes c.args.words.now word (omega arith) c.word-item.is in
-    let text : c.as_str.result.now ≡ string_bytes word = c.as_str.ensures.value in (
-      λ yes. one ∙ ap (λ (bytes : List ℕ). bytes ∷ []) (sym text ∙ c.is_play.ensures.0 yes),
+    let text : c.as_str.result.now ≡ string_bytes word = c.as_str.ensures.value in
+    let reads : IsTrue c.eq.result ↔ (c.as_str.result.now ≡ codes "play") = search rules in (
+      λ yes. one ∙ ap (λ (bytes : List ℕ). bytes ∷ []) (sym text ∙ reads.0 yes),
       λ e.
           let same : string_bytes word ≡ codes "play" = cc in
-          c.is_play.ensures.1 (text ∙ same),
+          reads.1 (text ∙ same),
     )

@@ -1,14 +1,13 @@
-use Rattle.std.proofs.Common.{◌≡◌, ◌-◌, ◌≤◌, length, drop}
-use Rattle.dss_frame.specs.Reading.{fed}
-use Rattle.dss_frame.specs.Scan.{at_place, Extends}
+use Rattle.std.proofs.Common.{◌-◌, length}
+use Rattle.dss_frame.specs.Scan.{Extends}
+use Rattle.dss_frame.proofs.Scanning.{ReadsOn}
 use Rattle.dss_frame.proofs.scan.read_all.Given as goal
 
-abbrev pub invariant-loop-len : goal.invariant-loop-len
-invariant-loop-len l = record {
-  within : l.begins ≤ length l.bytes;
+abbrev pub invariant-loop-fault : goal.invariant-loop-fault
+invariant-loop-fault l = record {
   kept : Extends l.fn.whole.items l.whole.items;
-  reads : fed (at_place l.whole.items l.at) (drop l.begins l.bytes) ≡ fed (at_place l.fn.whole.items l.fn.at) l.bytes;
+  reads_on : ReadsOn l.side l.limit l.bytes l.fn.position l.position l.fn.whole.items l.whole.items l.begins;
 }
 
-abbrev pub decreases-loop-len : goal.decreases-loop-len
-decreases-loop-len l = length l.bytes - l.begins
+abbrev pub decreases-loop-fault : goal.decreases-loop-fault
+decreases-loop-fault l = length l.bytes - l.begins

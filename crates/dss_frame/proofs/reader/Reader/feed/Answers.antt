@@ -1,37 +1,30 @@
-use Rattle.std.proofs.Common.{ℕ, Bool, List, ap, sym, ◌∙◌, refl, rules}
-use Rattle.std.specs.Prelude.{slice_range}
+use Rattle.std.proofs.Common.{ap, sym, ◌∙◌, drop}
 use Rattle.dss_frame.specs.Reading.{View, fed}
-use Rattle.dss_frame.specs.Scan.{fault_of}
-use Rattle.dss_frame.proofs.Reading.{Stops-again}
-use Rattle.dss_frame.proofs.Short.{scanned_short}
-use Rattle.dss_frame.proofs.Scanning.{feed-left}
+use Rattle.dss_frame.proofs.Scanning.{scanned_within, fed_left, stopped_again, stopped_there}
 use Rattle.dss_frame.proofs.reader.Reader.feed.Goals as goal
 
 pub returns-in-Some-clause-err : goal.returns-in-Some-clause-err
-returns-in-Some-clause-err c = Stops-again _ c.args.self.now c.args.piece.now (sym (ap (λ (v : View). v.fault) c.self.view_is) ∙ c.in-Some.is)
+returns-in-Some-clause-err c = stopped_again _ c.args.self.now c.args.piece.now (sym (ap (λ (v : View). v.fault) c.self.view_is) ∙ c.in-Some.is)
 
-pub returns-then-scan-clause-err : goal.returns-then-scan-clause-err
-returns-then-scan-clause-err c =
-    let s = c.in-Ok.scan in
-    let v : View = record { whole = c.self.inside.whole.items; at = c.self.inside.at; «open» = c.self.inside.begun.items; fault = c.self.inside.fault } in
-    let kept = c.keep.ensures ∙ ap (λ (xs : List ℕ). slice_range xs s.begins s.ends) (sym c.as_slice.ensures.value) in
-    let left = feed-left v c.args.piece.now c.as_slice.result.now c.keep.new.bytes.items c.read_all.new.whole.items s _
-    c.in_default.is (c.self.invariant.0 c.in_default.is) (c.as_slice.ensures.value ∙ c.in_ok-extend_from_slice.ensures.items) c.in-Ok.ensures.ok kept
-    (sym (ap (λ (b : Bool). fault_of b s.at) c.if-scan.true)) in
-    (left ∙ ap (λ (w : View). fed w c.args.piece.now) c.self.view_is, refl)
+pub invariant_of-self-2 : goal.invariant_of-self-2
+invariant_of-self-2 c = scanned_within _ _ _ _ _ _ _ c.in-Ok.ensures.ok c.self.invariant
 
 pub returns-clause-ok : goal.returns-clause-ok
 returns-clause-ok c =
-    let s = c.in-Ok.scan in
-    let v : View = record { whole = c.self.inside.whole.items; at = c.self.inside.at; «open» = c.self.inside.begun.items; fault = c.self.inside.fault } in
-    let kept = c.keep.ensures ∙ ap (λ (xs : List ℕ). slice_range xs s.begins s.ends) (sym c.as_slice.ensures.value) in
-    let left = feed-left v c.args.piece.now c.as_slice.result.now c.keep.new.bytes.items c.read_all.new.whole.items s c.self.inside.fault
-    c.in_default.is (c.self.invariant.0 c.in_default.is) (c.as_slice.ensures.value ∙ c.in_ok-extend_from_slice.ensures.items) c.in-Ok.ensures.ok kept
-    (c.in_default.is ∙ sym (ap (λ (b : Bool). fault_of b s.at) c.if-scan.false)) in
-    left ∙ ap (λ (w : View). fed w c.args.piece.now) c.self.view_is
+    let v : View = record { side = c.self.inside.side; limit = c.self.inside.limit; whole = c.self.inside.whole.items; position = c.self.inside.position; «open» = c.self.inside.begun.items; fault = c.self.inside.fault } in
+    fed_left v c.args.piece.now c.as_slice-bytes.result.now c.keep_from.new.bytes.items c.read_all.new.whole.items c.in-Ok.scan
+    c.in_default.is (c.as_slice-bytes.ensures.value ∙ c.in_ok-extend_from_slice.ensures.items) c.in-Ok.ensures.ok
+    (c.keep_from.ensures ∙ ap (drop c.in-Ok.scan.begins) (sym c.as_slice-bytes.ensures.value))
+    ∙ ap (λ (w : View). fed w c.args.piece.now) c.self.view_is
 
-pub invariant_of-self-then-scan : goal.invariant_of-self-then-scan
-invariant_of-self-then-scan c = (search rules, scanned_short _ _ _ _ _ c.in-Ok.ensures.ok c.self.invariant.1)
+pub invariant_of-self-in-Some-fault : goal.invariant_of-self-in-Some-fault
+invariant_of-self-in-Some-fault c = scanned_within _ _ _ _ _ _ _ c.in-Ok.ensures.ok c.self.invariant
 
-pub invariant_of-self-else-scan : goal.invariant_of-self-else-scan
-invariant_of-self-else-scan c = (search rules, scanned_short _ _ _ _ _ c.in-Ok.ensures.ok c.self.invariant.1)
+pub returns-in-Some-fault-clause-err : goal.returns-in-Some-fault-clause-err
+returns-in-Some-fault-clause-err c =
+    let v : View = record { side = c.self.inside.side; limit = c.self.inside.limit; whole = c.self.inside.whole.items; position = c.self.inside.position; «open» = c.self.inside.begun.items; fault = c.self.inside.fault } in
+    let left = fed_left v c.args.piece.now c.as_slice-bytes.result.now c.keep_from.new.bytes.items c.read_all.new.whole.items c.in-Ok.scan
+    c.in_default.is (c.as_slice-bytes.ensures.value ∙ c.in_ok-extend_from_slice.ensures.items) c.in-Ok.ensures.ok
+    (c.keep_from.ensures ∙ ap (drop c.in-Ok.scan.begins) (sym c.as_slice-bytes.ensures.value)) in
+    stopped_there _ _ _ _ _ _ c.in-Ok.scan c.in-Some-fault.fault c.args.self.now _ c.args.piece.now c.in-Ok.ensures.ok c.in-Some-fault.is
+    (left ∙ ap (λ (w : View). fed w c.args.piece.now) c.self.view_is) c.in-Some-fault.is

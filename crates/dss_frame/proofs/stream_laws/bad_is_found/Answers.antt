@@ -1,0 +1,5 @@
+use Rattle.dss_frame.proofs.FaultIsTold.{bad_told}
+use Rattle.dss_frame.proofs.stream_laws.bad_is_found.Goals as goal
+
+pub returns : goal.returns
+returns c = bad_told

@@ -1,0 +1,5 @@
+use Rattle.dss_frame.proofs.Streams.{one_stream}
+use Rattle.dss_frame.proofs.stream_laws.streams_are_one.Goals as goal
+
+pub returns : goal.returns
+returns c = one_stream

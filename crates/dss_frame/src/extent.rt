@@ -1,0 +1,198 @@
+ghost use Rattle.std.specs.Prelude.{◌≡◌, ◌<◌, ◌≤◌, length, take, IfOk};
+ghost use Rattle.dss_frame.specs.Segments.{segment_size as size_of, continues, has_bit as bit_of, kind_of, is_format_of, header_fault as first_fault, field_offset, segments_extent as extent_from, extent_of, dss_of as dss_in, body_of};
+
+use crate::dss::{Dss, Kind, Side};
+use crate::fault::Why;
+use byteorder::{BigEndian, ByteOrder};
+use link_ends::{NoMemory, Octets};
+use std::alloc::Global;
+
+/// The third byte of each DSS.
+const MAGIC: u8 = 0xD0;
+
+/// The bits of the format byte above the kind: one that must be clear, chained to the next DSS, going on after an
+/// error, and the next DSS has the same correlation number.
+const RESERVED: u8 = 0x80;
+
+const CHAINED: u8 = 0x40;
+
+const GO_ON: u8 = 0x20;
+
+const SAME: u8 = 0x10;
+
+/// How many bytes of the first segment stand before its body, and of a further one.
+const HEADER: usize = 6;
+
+const FURTHER_HEADER: usize = 2;
+
+/// The least length of a further segment.
+const LEAST_FURTHER: usize = 3;
+
+/// The bit of a length that says that another segment follows, and how many lengths there are below it.
+const CONTINUES: u16 = 0x8000;
+
+/// What is known of a DSS from the bytes of it that have come.
+#[derive(Clone, Copy, Debug)]
+pub(crate) enum Extent {
+    /// More bytes are awaited.
+    Awaits,
+    /// It is whole, with so many bytes.
+    Ends { len: usize },
+    /// The field at this offset is none of a DSS.
+    Fails { offset: usize, why: Why },
+}
+
+/// How many bytes the segment has that these bytes begin with.
+fn segment_size(bytes: &[u8]) -> usize
+    requires { 2 ≤ length bytes.now }
+    ensures size { result ≡ size_of bytes.now }
+    ensures small { result < 32768 }
+{
+    usize::from(BigEndian::read_u16(bytes) % CONTINUES)
+}
+
+/// Whether another segment follows the one that these bytes begin with.
+fn continues(bytes: &[u8]) -> bool
+    requires { 2 ≤ length bytes.now }
+    ensures { result ≡ continues bytes.now }
+{
+    BigEndian::read_u16(bytes) >= CONTINUES
+}
+
+/// Whether the byte has this bit set.
+fn has_bit(byte: u8, bit: u8) -> bool
+    requires { 0 < bit }
+    ensures { result ≡ bit_of bit byte }
+{
+    byte / bit % 2 == 1
+}
+
+/// What a DSS with this format byte holds.
+fn kind(format: u8) -> Kind
+    ensures { result ≡ kind_of format }
+{
+    match format % 16 {
+        1 => Kind::Request,
+        2 => Kind::Reply,
+        _ => Kind::Object,
+    }
+}
+
+/// Whether the format byte is one that is read of this side: of a kind of that side, and saying that the next DSS has
+/// the same correlation number only where there is a next one.
+fn is_accepted(side: Side, format: u8) -> bool
+    ensures { result ≡ is_format_of side format }
+{
+    let low = format % 16;
+    let is_kind = match side {
+        Side::Requests => low == 1 || low == 3,
+        Side::Replies => low == 2 || low == 3,
+    };
+    is_kind && !has_bit(format, RESERVED) && (!has_bit(format, SAME) || has_bit(format, CHAINED))
+}
+
+/// What is wrong with the first field of the header that has come whole and is none of a DSS.
+#[tactic(auto, unfolding(crate::specs::Segments::header_fault))]
+fn header_fault(side: Side, bytes: &[u8]) -> Option<Why>
+    ensures { result ≡ first_fault side bytes.now }
+{
+    if bytes.len() >= 2 && segment_size(bytes) < HEADER {
+        Some(Why::Short)
+    } else if bytes.len() >= 3 && bytes[2] != MAGIC {
+        Some(Why::NoD0)
+    } else if bytes.len() >= 4 && !is_accepted(side, bytes[3]) {
+        Some(Why::Format)
+    } else {
+        None
+    }
+}
+
+/// Where the field begins, in the first segment.
+fn offset_of(why: Why) -> usize
+    ensures { result ≡ field_offset why }
+{
+    match why {
+        Why::Short => 0,
+        Why::NoD0 => 2,
+        Why::Format => 3,
+        Why::Continue => HEADER,
+    }
+}
+
+/// What is known of the DSS that begins with these bytes.
+#[tactic(auto, unfolding(crate::specs::Segments::extent_of))]
+pub(crate) fn judge(side: Side, bytes: &[u8]) -> Extent
+    ensures { result ≡ extent_of side bytes.now }
+{
+    match header_fault(side, bytes) {
+        Some(why) => Extent::Fails {
+            offset: offset_of(why),
+            why,
+        },
+        None => segments_extent(bytes),
+    }
+}
+
+/// What the segments come to that these bytes begin with.
+fn segments_extent(bytes: &[u8]) -> Extent
+    ensures { result ≡ extent_from (length bytes.now) 0 bytes.now }
+{
+    let mut offset = 0;
+    loop {
+        let rest = &bytes[offset..];
+        if rest.len() < FURTHER_HEADER {
+            return Extent::Awaits;
+        }
+        let size = segment_size(rest);
+        if size < LEAST_FURTHER {
+            return Extent::Fails {
+                offset,
+                why: Why::Continue,
+            };
+        }
+        if rest.len() < size {
+            return Extent::Awaits;
+        }
+        offset += size;
+        if !continues(rest) {
+            return Extent::Ends { len: offset };
+        }
+    }
+}
+
+/// The DSS that these bytes are, all of them.
+#[tactic(auto, unfolding(crate::specs::Segments::dss_of))]
+pub(crate) fn dss_of(alloc: Global, side: Side, bytes: &[u8]) -> Result<Dss, NoMemory>
+    requires { extent_of side bytes.now ≡ Extent.Ends (length bytes.now) }
+    ensures { IfOk result (λ d. d ≡ dss_in bytes.now) }
+{
+    let format = bytes[3];
+    Ok(Dss {
+        kind: kind(format),
+        chained: has_bit(format, CHAINED),
+        same: has_bit(format, SAME),
+        go_on: has_bit(format, GO_ON),
+        corr: BigEndian::read_u16(&bytes[4..]),
+        body: body(alloc, bytes)?,
+    })
+}
+
+/// What the segments hold that these bytes are, all of them.
+fn body(alloc: Global, bytes: &[u8]) -> Result<Octets, NoMemory>
+    requires first { 6 ≤ size_of bytes.now }
+    requires whole { extent_from (length bytes.now) 0 bytes.now ≡ Extent.Ends (length bytes.now) }
+    ensures { IfOk result (λ body. body ≡ body_of (length bytes.now) 6 bytes.now) }
+{
+    let mut body = Octets::new(alloc);
+    let mut rest = bytes;
+    let mut header = HEADER;
+    loop {
+        let (segment, after) = rest.split_at(segment_size(rest));
+        body.push_all(&segment[header..])?;
+        if !continues(rest) {
+            return Ok(body);
+        }
+        rest = after;
+        header = FURTHER_HEADER;
+    }
+}

@@ -1,0 +1,128 @@
+ghost use Rattle.std.specs.Prelude.{◌≡◌, ◌≤◌, length};
+ghost use Rattle.dss_frame.specs.Reading.{further_on as place_on, number_for as number_of, too_long, step_of, first_position, position_after};
+
+use crate::dss::{Dss, Side};
+use crate::extent::{Extent, judge};
+use crate::fault::FeedFault;
+use byteorder::{BigEndian, ByteOrder};
+
+/// How many bytes of a DSS have come where its correlation number has.
+const NUMBERED: usize = 6;
+
+/// Where a DSS begins.
+#[derive(Clone, Copy, Debug)]
+pub(crate) struct Position {
+    /// The place of its first byte among all bytes read.
+    pub(crate) at: u64,
+    /// How many bytes its chain may have from there on.
+    pub(crate) room: u64,
+    /// The correlation number of the DSS before it in the chain, or 0.
+    pub(crate) before: u16,
+}
+
+/// What comes next where a DSS begins.
+#[derive(Clone, Copy, Debug)]
+pub(crate) enum Step {
+    /// More bytes of it are awaited.
+    Waits,
+    /// It is whole, with so many bytes.
+    Reads { len: usize },
+    /// A fault ends the reading.
+    Stops { fault: FeedFault },
+}
+
+impl Position {
+    /// Where a stream begins, whose chains have at most `limit` bytes.
+    pub(crate) fn first(limit: u64) -> Position
+        ensures { result ≡ first_position limit }
+    {
+        Position {
+            at: 0,
+            room: limit,
+            before: 0,
+        }
+    }
+
+    /// Where the DSS begins that follows this one of `len` bytes.
+    pub(crate) fn after(self, limit: u64, dss: &Dss, len: usize) -> Position
+        requires { len ≤ self.room }
+        ensures { result ≡ position_after limit self dss.now len }
+    {
+        Position {
+            at: self.place(len as u64),
+            room: if dss.chained {
+                self.room - len as u64
+            } else {
+                limit
+            },
+            before: if dss.chained { dss.corr } else { 0 },
+        }
+    }
+
+    /// The place so many bytes further on.
+    fn place(self, bytes: u64) -> u64
+        ensures { result ≡ place_on self.at bytes }
+    {
+        self.at.saturating_add(bytes)
+    }
+
+    /// The correlation number of a fault at this offset of a DSS that begins with these bytes.
+    fn number_for(self, bytes: &[u8], offset: u64) -> u16
+        requires { offset ≤ length bytes.now }
+        ensures { result ≡ number_of self bytes.now offset }
+    {
+        if offset < NUMBERED as u64 {
+            self.before
+        } else {
+            BigEndian::read_u16(&bytes[4..])
+        }
+    }
+
+    /// The chain has more bytes than it may.
+    fn stop_beyond(self, bytes: &[u8]) -> Step
+        requires { self.room ≤ length bytes.now }
+        ensures { result ≡ Step.Stops (too_long self bytes.now) }
+    {
+        Step::Stops {
+            fault: FeedFault::TooLong {
+                at: self.place(self.room),
+                corr: self.number_for(bytes, self.room),
+            },
+        }
+    }
+
+    /// What comes next where a DSS begins here, with these bytes.
+    pub(crate) fn next(self, side: Side, bytes: &[u8]) -> Step
+        ensures { result ≡ step_of side self bytes.now }
+    {
+        match judge(side, bytes) {
+            Extent::Awaits => {
+                if bytes.len() as u64 > self.room {
+                    self.stop_beyond(bytes)
+                } else {
+                    Step::Waits
+                }
+            }
+            Extent::Ends { len } => {
+                if len as u64 > self.room {
+                    self.stop_beyond(bytes)
+                } else {
+                    Step::Reads { len }
+                }
+            }
+            Extent::Fails { offset, why } => {
+                if (offset as u64) < self.room {
+                    Step::Stops {
+                        fault: FeedFault::Frame {
+                            at: self.place(offset as u64),
+                            why,
+                            corr: self.number_for(bytes, offset as u64),
+                        },
+                    }
+                } else {
+                    self.stop_beyond(bytes)
+                }
+            }
+        }
+    }
+}
