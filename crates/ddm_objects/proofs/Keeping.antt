@@ -1,12 +1,12 @@
 -- The objects that a builder keeps, with the innermost last.
-use Rattle.std.proofs.Common.{◌≡◌, ℕ, ◌+◌, ◌<◌, ◌≤◌, ◌^◌, List, [], ◌∷◌, ◌++◌, length, get_or, set, take, drop, map, reverse, refl, sym, ap, subst, ◌∙◌, arith}
+use Rattle.std.proofs.Common.{◌≡◌, ℕ, ◌+◌, ◌≤◌, List, [], ◌∷◌, ◌++◌, length, get_or, set, take, drop, map, reverse, refl, sym, ap, ◌∙◌, arith}
 use Rattle.std.proofs.lemmas.List.{map_push, reverse-append, take_more, take_more_set, take_all, take-take, get_or-take, length-set, length-take}
 use Rattle.std.proofs.lemmas.List.Sums.{sum_by-cons, sum_by_push}
 use Rattle.std.specs.List.{sum_by}
 use Rattle.ddm_objects.specs.declared.builder.OpenObject.{OpenObject}
-use Rattle.ddm_objects.specs.Objects.{Member, canonical_object}
+use Rattle.ddm_objects.specs.Objects.{Member}
 use Rattle.ddm_objects.specs.Building.{Building, building_size, with_bytes}
-use Rattle.ddm_objects.specs.Kept.{open_object, open_size, kept, IsInnermost, FitsInnermost}
+use Rattle.ddm_objects.specs.Kept.{open_object, open_size, kept, FitsInnermost}
 
 pub kept_push : (objects : List OpenObject) (last : OpenObject) → kept (objects ++ last ∷ []) ≡ open_object last ∷ kept objects
 kept_push objects last = ap reverse (map_push open_object objects last) ∙ reverse-append (map open_object objects) (open_object last ∷ [])
@@ -63,12 +63,6 @@ begin_fits written objects objects_now object old is empty was room =
 pub innermost_fits : (written : List ℕ) (objects : List Member) → building_size (record { written = written; begun = objects }) ≤ 33554432 → FitsInnermost objects
 innermost_fits written [] h = tt
 innermost_fits written (object ∷ outer) h = omega (arith, h, sum_by-cons (λ (o : Member). length o.bytes + 8) object outer)
-
-pub innermost_is : (objects : List Member) (object : OpenObject) (outer : List Member) (bytes : List ℕ) → objects ≡ open_object object ∷ outer → bytes ≡ canonical_object object.code object.bytes → IsInnermost objects bytes
-innermost_is objects object outer bytes is e = subst (λ (os : List Member). IsInnermost os bytes) (sym is) e
-
-pub innermost_size : (objects : List Member) (object : OpenObject) (outer : List Member) → objects ≡ open_object object ∷ outer → FitsInnermost objects → length object.bytes < 2 ^ 32
-innermost_size objects object outer is fits = subst FitsInnermost is fits
 
 -- what is begun has as many bytes in either order
 pub kept_size : (objects : List OpenObject) → sum_by (λ (o : Member). length o.bytes + 8) (kept objects) ≡ sum_by open_size objects

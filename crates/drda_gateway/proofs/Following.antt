@@ -127,9 +127,6 @@ begun_follows s rests = begun_with_follows s rests s.reader.whole refl
 
 -- ---- the events of a session
 
-rest_bytes : SessionState → List ℕ
-rest_bytes s = drop s.taken s.bytes
-
 take_length_take : (n : ℕ) (xs : List ℕ) → take (length (take n xs)) xs ≡ take n xs
 take_length_take n xs =
     ⊎_elim (λ (h : n < length xs). ap (λ (k : ℕ). take k xs) (length-take-le n xs (omega arith)))

@@ -19,16 +19,6 @@ settle_more w next went budget counter below step e =
     let one : budget - counter ≡ suc (budget - (counter + 1)) = omega arith in
     rw one (settle_by w next went (budget - (counter + 1)) (first_event w) step e)
 
-settle_stops : (w next : WorldState) (went : Bool) (budget : ℕ) (first : Option Event) → MatchOption first ((went ≡ false) × (next ≡ w)) (λ event. (went ≡ true) × (next ≡ after w event)) → went ≡ false → (more : Event → List Event) → next ≡ after_all w (and_then_more first more)
-settle_stops w next went budget None step e more = step.1
-settle_stops w next went budget (Some event) step e more = absurd (cc)
-
--- where there is no event, none is left of any budget
-pub settle_none : (w next : WorldState) (went : Bool) (budget counter : ℕ) → counter < budget → Steps w next went → went ≡ false → next ≡ after_all w (settle_events (budget - counter) w)
-settle_none w next went budget counter below step e =
-    let one : budget - counter ≡ suc (budget - (counter + 1)) = omega arith in
-    rw one (settle_stops w next went (budget - (counter + 1)) (first_event w) step e (λ event. settle_events (budget - (counter + 1)) (after w event)))
-
 -- the events of the lines from a place on are those of the line there, and then those of the lines after it
 pub events_more : (w : WorldState) (lines : List Line) (place : ℕ) (line : Line) → place < length lines → line ≡ get_or lines place line → after_all w (events_of w (drop place lines)) ≡ after_all (after_all w (line_events w line)) (events_of (after_all w (line_events w line)) (drop (place + 1) lines))
 events_more w lines place line below e =
