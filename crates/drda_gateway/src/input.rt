@@ -1,11 +1,9 @@
 ghost use Rattle.std.specs.Prelude.{◌≡◌, ◌≤◌, length, IfOk, IfErr};
 ghost use Rattle.drda_gateway.specs.Ends.{Gave, IsWhole, ReadFails};
 
+use crate::script::MOST_BYTES;
 use link_ends::{NoMemory, Octets, Source};
 use std::alloc::Global;
-
-/// The most bytes that a script may have.
-pub const MOST_BYTES: usize = 16_777_216;
 
 /// Why a source wasn't read to its end.
 #[derive(Clone, Copy, Debug, PartialEq, Eq)]

@@ -19,7 +19,7 @@ use std::marker::Model;
 use users::Users;
 
 /// The longest script, in bytes.
-const MOST: usize = 16_777_216;
+pub const MOST_BYTES: usize = 16_777_216;
 
 /// A member server: its number, from 1, and its weight.
 #[derive(Debug, Drop)]
@@ -116,7 +116,7 @@ impl From<NoMemory> for ScriptFault {
 pub fn read_script(alloc: Global, text: &[u8]) -> Result<Script, ScriptFault>
     ensures { Reads result (script_of text.now) }
 {
-    if text.len() > MOST {
+    if text.len() > MOST_BYTES {
         return Err(ScriptFault::Refused {
             line: 0,
             why: ScriptWhy::Long,

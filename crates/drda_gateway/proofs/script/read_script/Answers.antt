@@ -2,8 +2,8 @@ use Rattle.std.proofs.Common.{◌≡◌, length, rules}
 use Rattle.drda_gateway.proofs.ScriptLemmas.{script_of-long, read_more, read_refused, read_whole}
 use Rattle.drda_gateway.proofs.script.read_script.Goals as goal
 
-pub returns-then-text-gt-MOST : goal.returns-then-text-gt-MOST
-returns-then-text-gt-MOST c = script_of-long c.args.text.now c.if-text-gt-MOST.true
+pub returns-then-text-gt-MOST_BYTES : goal.returns-then-text-gt-MOST_BYTES
+returns-then-text-gt-MOST_BYTES c = script_of-long c.args.text.now c.if-text-gt-MOST_BYTES.true
 
 pub returns-in-Err : goal.returns-in-Err
 returns-in-Err c =
