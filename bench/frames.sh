@@ -16,7 +16,7 @@ for crate in link_ends dss_frame; do
     done
     grep "^$crate:" crates.txt >>"$folder/crates.txt"
 done
-# The program, whose files end in .rt only there: the merge gate lets a file that ends so stand in a crate's src alone.
+# The program, whose files end in .rt only there: rt ci lets a file that ends so stand in a crate's src alone.
 mkdir -p "$folder/crates/frames/src"
 for file in bench/frames/*.rt.in; do
     cp "$file" "$folder/crates/frames/src/$(basename "$file" .in)"
