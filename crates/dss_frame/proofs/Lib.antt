@@ -25,3 +25,4 @@ pub mod Told
 pub mod FaultIsTold
 pub mod GoesOn
 pub mod Places
+pub mod Written

@@ -2,19 +2,24 @@
 //! pieces the same holds however the bytes were cut.
 
 ghost use Rattle.std.specs.Prelude.{◌≡◌, ℕ, ◌-◌, ◌<◌, ◌≤◌, ◌⊎◌, ◌++◌, List, [], map, length, take, Some, None};
-ghost use Rattle.std.specs.List.{All};
+ghost use Rattle.std.specs.List.{All, AllByRecursion, flat_map};
 ghost use Rattle.dss_frame.specs.declared.dss.Side.{Side as OfSide};
 ghost use Rattle.dss_frame.specs.declared.dss.Dss.{Dss as OneDss};
 ghost use Rattle.dss_frame.specs.declared.fault.Why.{Why as Reason};
 ghost use Rattle.dss_frame.specs.declared.fault.FeedFault.TheVariants.{Frame, TooLong};
-ghost use Rattle.dss_frame.specs.Spelling.{Spelled, Begins, IsStream, IsBad, IsBeyond, chain_after};
+ghost use Rattle.dss_frame.specs.Dss.{canonical};
+ghost use Rattle.dss_frame.specs.Spelling.{IsDssOf, Spelled, Begins, IsStream, IsBad, IsBeyond, chain_after};
+ghost use Rattle.dss_frame.specs.Reading.{start};
+ghost use Rattle.dss_frame.specs.Calls.{Call, after_calls, taken_by, fed_by};
 ghost use Rattle.dss_frame.specs.Told.{read, StandsAt, dsss_of, told, TellsFrame, TellsTooLong, TellsFault, number_told};
 
-/// Without a fault the bytes are spellings of the DSSs that were read, and then those of the one that isn't whole yet.
+/// Whatever pieces a reader is fed, and whenever DSSs are taken in between: without a fault the bytes of all pieces are
+/// spellings of the DSSs that were taken and of those that are left, and then those of the one that isn't whole yet.
 pub fn read_is_a_stream()
-    ensures { (side : OfSide) (limit : ℕ) (bytes : List ℕ) → All (λ byte. byte < 256) bytes
-        → (read side limit bytes).fault ≡ None
-        → IsStream side (dsss_of (read side limit bytes)) (read side limit bytes).open bytes }
+    ensures { (side : OfSide) (limit : ℕ) (calls : List Call) → All (λ byte. byte < 256) (fed_by calls)
+        → (after_calls (start side limit) calls).fault ≡ None
+        → IsStream side (map (λ placed. placed.dss) (taken_by (start side limit) calls ++ (after_calls (start side limit) calls).whole))
+        (after_calls (start side limit) calls).open (fed_by calls) }
 {}
 
 /// Each DSS that was read stands where the bytes spell it, and has the place of its first byte there; the place behind it
@@ -48,6 +53,15 @@ pub fn stream_is_read()
         → ((place : ℕ) → IsBeyond side limit bytes place → ⊥)
         → ((read side limit bytes).fault ≡ None) × (dsss_of (read side limit bytes) ≡ ds)
         × ((read side limit bytes).open ≡ rest) }
+{}
+
+/// DSSs that are written one after another are read as these DSSs. By the laws of pieces whatever follows them is read
+/// behind them.
+pub fn what_is_written_is_read()
+    ensures { (side : OfSide) (limit : ℕ) (ds : List OneDss) → AllByRecursion (IsDssOf side) ds
+        → All (λ byte. byte < 256) (flat_map canonical ds) → length (flat_map canonical ds) ≤ limit
+        → ((read side limit (flat_map canonical ds)).fault ≡ None) × (dsss_of (read side limit (flat_map canonical ds)) ≡ ds)
+        × ((read side limit (flat_map canonical ds)).open ≡ []) }
 {}
 
 /// Where a field is told that is none of a DSS, it is the first one.
