@@ -1,20 +1,19 @@
 -- What each application was sent is what a dedicated session sends, for every list of events.
-use Rattle.std.proofs.Common.{◌≡◌, ◌++◌, ◌-◌, ℕ, zero, suc, Bool, true, false, List, [], ◌∷◌, Option, Some, None, refl, ap, sym, subst, ◌∙◌, append_assoc, length, take, get_or, set, replicate, cond, leb, ltb}
-use Rattle.std.specs.Prelude.{is_none, is_some, ◌&&◌}
+use Rattle.std.proofs.Common.{◌≡◌, ◌++◌, ◌-◌, ℕ, zero, suc, Bool, true, false, List, [], ◌∷◌, Option, Some, None, refl, ap, sym, ◌∙◌, append_assoc, length, take, get_or, set, replicate, cond, leb, ltb}
+use Rattle.std.specs.Prelude.{is_none, ◌&&◌}
 use Rattle.std.proofs.Math.Seq.{take-append_seam}
 use Rattle.std.proofs.lemmas.List.{append-nil}
-use Rattle.std.proofs.lemmas.Bool.{and_parts, leb-true, ltb-false}
+use Rattle.std.proofs.lemmas.Bool.{and_parts, leb-true}
 use Rattle.std.specs.List.{AllByRecursion}
 use Rattle.dss_frame.specs.declared.dss.Placed.{Placed}
 use Rattle.dss_frame.specs.declared.fault.FeedFault.{FeedFault}
 use Rattle.dss_frame.specs.Reading.{View}
-use Rattle.drda_gateway.specs.declared.session.Need.TheVariants as need
 use Rattle.drda_gateway.specs.Session.{SessionState, fresh, is_reading, is_saying, can_take, taken_more, said_more, appended}
 use Rattle.drda_gateway.specs.World.{WorldState, Event, Append, Take, Say, start_world, session_at, changed, after, after_all, answer_entries, end_entries, newly_ended}
 use Rattle.drda_gateway.specs.declared.world.Entry.{Entry}
 use Rattle.drda_gateway.specs.declared.session.End.{End}
 use Rattle.drda_gateway.specs.Dedicated.{replies_to, dedicated, IsDedicated, AreDedicated}
-use Rattle.drda_gateway.proofs.Following.{Reads, Stands, Follows, take_follows, say_follows, append_follows, fresh_follows, no_bytes, is_none-is}
+use Rattle.drda_gateway.proofs.Following.{Stands, Follows, take_follows, say_follows, append_follows, fresh_follows, no_bytes, is_none-is}
 
 -- ---- lists of which each element has a property
 
@@ -86,32 +85,19 @@ began_by s None reads =
     let all = ap (λ (v : View). replies_to v.whole v.fault) reads.read ∙ reads.replied s.reader.whole s.reader.fault ∙ append_assoc s.sent s.saying (replies_to s.reader.whole s.reader.fault) in
     sym (ap (take (length s.sent)) all ∙ take-append_seam s.sent (s.saying ++ replies_to s.reader.whole s.reader.fault))
 
-all_sent_by : (s : SessionState) → Reads s → s.saying ≡ [] → s.sent ≡ dedicated (take s.taken s.bytes)
+all_sent_by : (s : SessionState) (ended : Option End) → Stands ended s → s.saying ≡ [] → s.sent ≡ dedicated (take s.taken s.bytes)
 unfolding dedicated
-all_sent_by s reads silent =
+all_sent_by s (Some end) stands silent = sym (ap (λ (xs : List ℕ). s.sent ++ xs) silent ∙ append-nil s.sent) ∙ stands
+all_sent_by s None reads silent =
     let idle = reads.idle silent in
     let all = ap (λ (v : View). replies_to v.whole v.fault) reads.read ∙ reads.replied s.reader.whole s.reader.fault in
     sym (all ∙ ap (λ (xs : List Placed). (s.sent ++ s.saying) ++ replies_to xs s.reader.fault) idle.0 ∙ ap (λ (f : Option FeedFault). (s.sent ++ s.saying) ++ replies_to [] f) idle.1
     ∙ append-nil (s.sent ++ s.saying) ∙ ap (λ (xs : List ℕ). s.sent ++ xs) silent ∙ append-nil s.sent)
 
--- what waits for its application says nothing and hasn't ended
-waits_by : (saying ended : Bool) → cond saying need.Say (cond ended need.Done need.App) ≡ need.App → (saying ≡ false) × (ended ≡ false)
-waits_by true ended e = absurd (cc)
-waits_by false true e = absurd (cc)
-waits_by false false e = (refl, refl)
-
-is_some-is : (o : Option End) → is_some o ≡ false → o ≡ None
-is_some-is None e = refl
-is_some-is (Some x) e = absurd (cc)
-
 follows_is_dedicated : (s : SessionState) → Follows s → IsDedicated s
 follows_is_dedicated s follows = record {
   began = began_by s s.ended follows.stands;
-  all_sent = λ e.
-      let waits = waits_by (is_saying s) (is_some s.ended) e in
-      let silent = no_bytes s.saying (ltb-false 0 (length s.saying) waits.0) in
-      let goes_on = is_some-is s.ended waits.1 in
-      all_sent_by s (subst (λ (o : Option End). Stands o s) goes_on follows.stands) silent;
+  all_sent = all_sent_by s s.ended follows.stands;
 }
 
 -- for every list of events each session is as a dedicated one

@@ -7,8 +7,7 @@ use Rattle.dss_frame.specs.declared.fault.FeedFault.{FeedFault}
 use Rattle.dss_frame.specs.declared.dss.Side.TheVariants.{Requests}
 use Rattle.dss_frame.specs.Reading.{start, fed}
 use Rattle.drda_gateway.specs.Answer.{most_chain, answer_to, refusal, fault_reply}
-use Rattle.drda_gateway.specs.Session.{SessionState, need_of}
-use Rattle.drda_gateway.specs.declared.session.Need.TheVariants.{App}
+use Rattle.drda_gateway.specs.Session.{SessionState}
 use Rattle.drda_gateway.specs.World.{WorldState}
 
 -- what is sent behind the last whole DSS
@@ -31,10 +30,10 @@ dedicated bytes =
     replies_to (fed (start Requests most_chain) bytes).whole (fed (start Requests most_chain) bytes).fault
 
 -- What was sent is the beginning of what a dedicated session sends for the bytes that were taken, and all of it where
--- the session waits for more of them.
+-- nothing is left to say: so where the session waits for more bytes, and after its end.
 pub record IsDedicated (s : SessionState) : Type 0 where
   pub began : s.sent ≡ take (length s.sent) (dedicated (take s.taken s.bytes))
-  pub all_sent : need_of s ≡ App → s.sent ≡ dedicated (take s.taken s.bytes)
+  pub all_sent : s.saying ≡ [] → s.sent ≡ dedicated (take s.taken s.bytes)
 
 -- so it is for each application
 abbrev pub AreDedicated : WorldState → Type 0
