@@ -1,30 +1,32 @@
 -- What a whole run of calls reads from a source and writes to a sink. No standard speaks of these ends.
-use Rattle.std.specs.Prelude.{ℕ, List, ◌++◌, ◌≡◌, ◌⊎◌, Option, Some, MatchOption, take}
+use Rattle.std.specs.Prelude.{ℕ, List, ◌++◌, ◌≡◌, ◌⊎◌, Some, MatchOption, take}
 use Rattle.link_ends.specs.Counts.{Rose}
+use Rattle.link_ends.specs.Source.{SourceState}
+use Rattle.link_ends.specs.Sink.{SinkState}
 use Rattle.drda_gateway.specs.declared.input.ReadError.{ReadError}
 use Rattle.drda_gateway.specs.declared.input.ReadError.TheVariants.{Fault, NoMemory}
 
--- a source that had these bytes left, where it tells them, gave the text, and has what followed it left
-abbrev pub Gave : Option (List ℕ) → Option (List ℕ) → List ℕ → Type 0
-Gave left left_now text = MatchOption left (Unit {0}) (λ bytes. (rest : List ℕ) × (bytes ≡ text ++ rest) × (left_now ≡ Some rest))
+-- a source gave the text, where it tells its bytes, and has what followed it left
+abbrev pub Gave : SourceState → SourceState → List ℕ → Type 0
+Gave old new text = MatchOption old.left (Unit {0}) (λ bytes. (rest : List ℕ) × (bytes ≡ text ++ rest) × (new.left ≡ Some rest))
 
 -- a source was read to its end: it said so, and the text is all that it had left, where it tells that
-abbrev pub IsWhole : Option (List ℕ) → List ℕ → ℕ → ℕ → Type 0
-IsWhole left text ends ends_now = MatchOption left (Unit {0}) (λ bytes. bytes ≡ text) × Rose ends ends_now
+abbrev pub IsWhole : SourceState → SourceState → List ℕ → Type 0
+IsWhole old new text = MatchOption old.left (Unit {0}) (λ bytes. bytes ≡ text) × Rose old.ends new.ends
 
 -- why reading stopped before the end
-abbrev pub ReadFails : ℕ → ℕ → ReadError → Type 0
-ReadFails faults faults_now Fault = Rose faults faults_now
-ReadFails faults faults_now NoMemory = Unit {0}
+abbrev pub ReadFails : SourceState → SourceState → ReadError → Type 0
+ReadFails old new Fault = Rose old.faults new.faults
+ReadFails old new NoMemory = Unit {0}
 
--- a sink that had taken some bytes, where it tells them, took all of the text
-abbrev pub Took : Option (List ℕ) → Option (List ℕ) → List ℕ → Type 0
-Took taken taken_now text = MatchOption taken (Unit {0}) (λ bytes. taken_now ≡ Some (bytes ++ text))
+-- a sink took all of the text, where it tells its bytes
+abbrev pub Took : SinkState → SinkState → List ℕ → Type 0
+Took old new text = MatchOption old.taken (Unit {0}) (λ bytes. new.taken ≡ Some (bytes ++ text))
 
 -- a sink took the first bytes of the text
-abbrev pub TookSome : Option (List ℕ) → Option (List ℕ) → List ℕ → Type 0
-TookSome taken taken_now text = MatchOption taken (Unit {0}) (λ bytes. (count : ℕ) × (taken_now ≡ Some (bytes ++ take count text)))
+abbrev pub TookSome : SinkState → SinkState → List ℕ → Type 0
+TookSome old new text = MatchOption old.taken (Unit {0}) (λ bytes. (count : ℕ) × (new.taken ≡ Some (bytes ++ take count text)))
 
 -- a call of a sink failed, or took nothing of a piece that wasn't empty
-abbrev pub Stopped : ℕ → ℕ → ℕ → ℕ → Type 0
-Stopped faults faults_now stuck stuck_now = Rose faults faults_now ⊎ Rose stuck stuck_now
+abbrev pub Stopped : SinkState → SinkState → Type 0
+Stopped old new = Rose old.faults new.faults ⊎ Rose old.stuck new.stuck

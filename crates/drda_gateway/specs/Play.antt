@@ -1,10 +1,12 @@
 -- What each status of play says. No standard speaks of it.
-use Rattle.std.specs.Prelude.{ℕ, List, [], ◌∷◌, ◌++◌, ◌≡◌, ◌≤◌, ◌⊎◌, Option, Result, Ok, Err, length, codes}
+use Rattle.std.specs.Prelude.{ℕ, List, [], ◌∷◌, ◌++◌, ◌≡◌, ◌≤◌, ◌⊎◌, Result, Ok, Err, length, codes}
 use Rattle.std.specs.Fmt.{decimal}
 use Rattle.drda_gateway.specs.declared.script.ScriptWhy.{ScriptWhy}
 use Rattle.drda_gateway.specs.declared.script.ScriptWhy.TheVariants.{Word, Order, Field, Long}
 use Rattle.drda_gateway.specs.declared.script.ScriptFault.{ScriptFault}
 use Rattle.drda_gateway.specs.declared.script.ScriptFault.TheVariants.{Refused, NoMemory}
+use Rattle.link_ends.specs.Source.{SourceState}
+use Rattle.link_ends.specs.Sink.{SinkState}
 use Rattle.drda_gateway.specs.Refusal.{Refusal}
 use Rattle.drda_gateway.specs.ScriptText.{ScriptText}
 use Rattle.drda_gateway.specs.Script.{script_of, most}
@@ -30,9 +32,8 @@ abbrev pub refusal_text : Refusal → List ℕ
 refusal_text refusal = codes "script refused: line " ++ (decimal refusal.line ++ (codes " " ++ (why_word refusal.why ++ line_end)))
 
 -- a sink took all of the text, or a call of it failed or stuck and it took the first bytes
-abbrev pub Offered : Option (List ℕ) → Option (List ℕ) → ℕ → ℕ → ℕ → ℕ → List ℕ → Type 0
-Offered taken taken_now faults faults_now stuck stuck_now text =
-    Took taken taken_now text ⊎ (TookSome taken taken_now text × Stopped faults faults_now stuck stuck_now)
+abbrev pub Offered : SinkState → SinkState → List ℕ → Type 0
+Offered old new text = Took old new text ⊎ (TookSome old new text × Stopped old new)
 
 -- The report of the script that a text is, or why it is refused; nothing is said where memory ran out.
 abbrev pub Reports : Result (List ℕ) ScriptFault → List ℕ → Type 0
@@ -42,29 +43,29 @@ Reports (Err NoMemory) text = Unit {0}
 
 -- The source was read to its end, and the sink took the whole report of the script that it gave. Each application of
 -- that script was sent what a dedicated session sends.
-pub record Played (left left_now taken taken_now : Option (List ℕ)) (ends ends_now : ℕ) : Type 0 where
+pub record Played (source source_now : SourceState) (sink sink_now : SinkState) : Type 0 where
   pub text : List ℕ
   pub script : ScriptText
-  pub gave : Gave left left_now text
-  pub whole : IsWhole left text ends ends_now
+  pub gave : Gave source source_now text
+  pub whole : IsWhole source source_now text
   pub is_script : script_of text ≡ Ok script
-  pub took : Took taken taken_now (report_of (world_of script.lines))
+  pub took : Took sink sink_now (report_of (world_of script.lines))
   pub dedicated : AreDedicated (world_of script.lines)
 
--- The source gave a script that is refused, read to its end or past the longest script.
-pub record RefusedScript (left left_now : Option (List ℕ)) (ends ends_now : ℕ) (Tells : List ℕ → Type 0) : Type 0 where
+-- The source gave a script that is refused, read to its end or past the longest script, and the sink was offered why.
+pub record RefusedScript (source source_now : SourceState) (sink sink_now : SinkState) : Type 0 where
   pub text : List ℕ
   pub refusal : Refusal
-  pub gave : Gave left left_now text
-  pub whole : length text ≤ most → IsWhole left text ends ends_now
+  pub gave : Gave source source_now text
+  pub whole : length text ≤ most → IsWhole source source_now text
   pub is_refused : script_of text ≡ Err refusal
-  pub told : Tells (refusal_text refusal)
+  pub told : Offered sink sink_now (refusal_text refusal)
 
 -- The source gave a script, and the sink the first bytes of its report.
-pub record BegunReport (left left_now taken taken_now : Option (List ℕ)) (ends ends_now : ℕ) : Type 0 where
+pub record BegunReport (source source_now : SourceState) (sink sink_now : SinkState) : Type 0 where
   pub text : List ℕ
   pub script : ScriptText
-  pub gave : Gave left left_now text
-  pub whole : IsWhole left text ends ends_now
+  pub gave : Gave source source_now text
+  pub whole : IsWhole source source_now text
   pub is_script : script_of text ≡ Ok script
-  pub took : TookSome taken taken_now (report_of (world_of script.lines))
+  pub took : TookSome sink sink_now (report_of (world_of script.lines))

@@ -26,9 +26,9 @@ impl From<NoMemory> for ReadError {
 
 /// Reads a source to its end, or until it has given more bytes than a script may have.
 pub fn read_all<S: Source>(alloc: Global, source: &mut S) -> Result<Octets, ReadError>
-    ensures gave { IfOk result (λ text. Gave (S.left source.old) (S.left source.new) text) }
-    ensures whole { IfOk result (λ text. length text ≤ MOST_BYTES → IsWhole (S.left source.old) text (S.ends source.old) (S.ends source.new)) }
-    ensures fails { IfErr result (λ e. ReadFails (S.faults source.old) (S.faults source.new) e) }
+    ensures gave { IfOk result (λ text. Gave (S.state source.old) (S.state source.new) text) }
+    ensures whole { IfOk result (λ text. length text ≤ MOST_BYTES → IsWhole (S.state source.old) (S.state source.new) text) }
+    ensures fails { IfErr result (λ e. ReadFails (S.state source.old) (S.state source.new) e) }
 {
     let mut text = Octets::new(alloc);
     let mut buf = [0u8; 4096];

@@ -5,9 +5,9 @@ use link_ends::{Failed, Sink};
 
 /// Writes all of `text`, in as many calls as the sink needs. A call that fails, or takes nothing, ends it.
 pub fn write_all<K: Sink>(sink: &mut K, text: &[u8]) -> Result<(), Failed>
-    ensures took { OnOk result (Took (K.taken sink.old) (K.taken sink.new) text.now) }
-    ensures began { OnErr result (TookSome (K.taken sink.old) (K.taken sink.new) text.now) }
-    ensures stopped { OnErr result (Stopped (K.faults sink.old) (K.faults sink.new) (K.stuck sink.old) (K.stuck sink.new)) }
+    ensures took { OnOk result (Took (K.state sink.old) (K.state sink.new) text.now) }
+    ensures began { OnErr result (TookSome (K.state sink.old) (K.state sink.new) text.now) }
+    ensures stopped { OnErr result (Stopped (K.state sink.old) (K.state sink.new)) }
 {
     let mut from = 0;
     while from < text.len() {

@@ -1,4 +1,4 @@
-ghost use Rattle.std.specs.Prelude.{◌≡◌, ◌≢◌, ◌≤◌, ◌↔◌, ◌⊎◌, ℕ, List, Some, Ok, IsTrue, codes, IfOk, map, string_bytes};
+ghost use Rattle.std.specs.Prelude.{◌≡◌, ◌≢◌, ◌≤◌, ◌↔◌, ◌⊎◌, ℕ, List, Some, Ok, IsTrue, IfOk, map, string_bytes};
 ghost use Rattle.link_ends.specs.Counts.{Rose};
 ghost use Rattle.drda_gateway.specs.Ends.{Stopped};
 ghost use Rattle.drda_gateway.specs.ScriptText.{ScriptText};
@@ -39,23 +39,23 @@ enum Status {
 /// the sink; 2 where the script is refused, with its first bad line and the reason offered; 3 where a read failed, and 5
 /// where memory ran out, with nothing written; 4 where a write of the report failed or took nothing.
 pub fn play<S: Source, K: Sink>(alloc: Global, words: &[String], source: &mut S, sink: &mut K) -> u8
-    ensures done { result ≡ 0 → Played (S.left source.old) (S.left source.new) (K.taken sink.old) (K.taken sink.new) (S.ends source.old) (S.ends source.new) }
+    ensures done { result ≡ 0 → Played (S.state source.old) (S.state source.new) (K.state sink.old) (K.state sink.new) }
     ensures usage { result ≡ 1 → map string_bytes words.now ≢ play_words }
     ensures words { result ≢ 1 → map string_bytes words.now ≡ play_words }
-    ensures usage_told { result ≡ 1 → Offered (K.taken sink.old) (K.taken sink.new) (K.faults sink.old) (K.faults sink.new) (K.stuck sink.old) (K.stuck sink.new) usage_text }
-    ensures unread { result ≡ 1 → S.left source.new ≡ S.left source.old }
-    ensures refused { result ≡ 2 → RefusedScript (S.left source.old) (S.left source.new) (S.ends source.old) (S.ends source.new) (Offered (K.taken sink.old) (K.taken sink.new) (K.faults sink.old) (K.faults sink.new) (K.stuck sink.old) (K.stuck sink.new)) }
-    ensures source_fault { result ≡ 3 → Rose (S.faults source.old) (S.faults source.new) }
-    ensures sink_fault { result ≡ 4 → Stopped (K.faults sink.old) (K.faults sink.new) (K.stuck sink.old) (K.stuck sink.new) }
-    ensures begun { result ≡ 4 → BegunReport (S.left source.old) (S.left source.new) (K.taken sink.old) (K.taken sink.new) (S.ends source.old) (S.ends source.new) }
-    ensures unwritten { (result ≡ 3) ⊎ (result ≡ 5) → K.taken sink.new ≡ K.taken sink.old }
+    ensures usage_told { result ≡ 1 → Offered (K.state sink.old) (K.state sink.new) usage_text }
+    ensures unread { result ≡ 1 → (S.state source.new).left ≡ (S.state source.old).left }
+    ensures refused { result ≡ 2 → RefusedScript (S.state source.old) (S.state source.new) (K.state sink.old) (K.state sink.new) }
+    ensures source_fault { result ≡ 3 → Rose (S.state source.old).faults (S.state source.new).faults }
+    ensures sink_fault { result ≡ 4 → Stopped (K.state sink.old) (K.state sink.new) }
+    ensures begun { result ≡ 4 → BegunReport (S.state source.old) (S.state source.new) (K.state sink.old) (K.state sink.new) }
+    ensures unwritten { (result ≡ 3) ⊎ (result ≡ 5) → (K.state sink.new).taken ≡ (K.state sink.old).taken }
     ensures statuses { result ≤ 5 }
 
     // A script that is read without a fault, and whose report is taken, is played.
-    ensures complete { (text : List ℕ) (script : ScriptText) → S.left source.old ≡ Some text → script_of text ≡ Ok script
+    ensures complete { (text : List ℕ) (script : ScriptText) → (S.state source.old).left ≡ Some text → script_of text ≡ Ok script
         → map string_bytes words.now ≡ play_words
-        → (Rose (S.faults source.old) (S.faults source.new) → ⊥)
-        → (Stopped (K.faults sink.old) (K.faults sink.new) (K.stuck sink.old) (K.stuck sink.new) → ⊥)
+        → (Rose (S.state source.old).faults (S.state source.new).faults → ⊥)
+        → (Stopped (K.state sink.old) (K.state sink.new) → ⊥)
         → (result ≡ 0) ⊎ (result ≡ 5) }
 {
     if !are_play_words(words) {
@@ -95,7 +95,7 @@ fn are_play_words(words: &[String]) -> bool
 
 /// Writes a text, as far as the sink takes it.
 fn offer<K: Sink>(sink: &mut K, text: &[u8])
-    ensures { Offered (K.taken sink.old) (K.taken sink.new) (K.faults sink.old) (K.faults sink.new) (K.stuck sink.old) (K.stuck sink.new) text.now }
+    ensures { Offered (K.state sink.old) (K.state sink.new) text.now }
 {
     let _ = write_all(sink, text);
 }

@@ -1,6 +1,8 @@
 -- Ends in memory as contracts see them, and what each of their calls answers. No standard speaks of them.
-use Rattle.std.specs.Prelude.{ℕ, List, Bool, length, nat_eq, nat_lt, ◌&&◌, ◌||◌}
+use Rattle.std.specs.Prelude.{ℕ, List, Some, Bool, length, nat_eq, nat_lt, ◌&&◌, ◌||◌}
 use Rattle.std.specs.List.{list_any}
+use Rattle.link_ends.specs.Source.{SourceState}
+use Rattle.link_ends.specs.Sink.{SinkState}
 
 -- a source: the bytes left, the numbers of the calls that are to fail, how many calls there were, and its counts
 pub record Supply : Type 0 where
@@ -26,6 +28,10 @@ is_marked marks call = list_any (λ mark. nat_eq mark call) marks
 abbrev pub is_refused : Store → List ℕ → Bool
 is_refused sink piece = is_marked sink.marks sink.calls || (nat_eq sink.room 0 && nat_lt 0 (length piece))
 
--- a sink in memory fails where nothing fits, so no write of it takes nothing
-abbrev pub stuck_of : Store → ℕ
-stuck_of _ = 0
+-- as a source it tells the bytes that are left
+abbrev pub source_state : Supply → SourceState
+source_state s = record { left = Some s.left; faults = s.faults; ends = s.ends }
+
+-- As a sink it tells the bytes taken. It fails where nothing fits, so no write of it takes nothing.
+abbrev pub sink_state : Store → SinkState
+sink_state s = record { taken = Some s.taken; faults = s.faults; stuck = 0 }

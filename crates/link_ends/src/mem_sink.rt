@@ -1,7 +1,7 @@
-ghost use Rattle.std.specs.Prelude.{◌≡◌, ◌≢◌, ◌-◌, ◌<◌, ◌≤◌, Some, [], length, min, is_err, IfOk, OnOk, OnErr};
+ghost use Rattle.std.specs.Prelude.{◌≡◌, ◌≢◌, ◌-◌, ◌<◌, ◌≤◌, [], length, min, is_err, IfOk, OnOk, OnErr};
 ghost use Rattle.link_ends.specs.Counts.{Rose, one_more};
 ghost use Rattle.link_ends.specs.Sink.{Takes};
-ghost use Rattle.link_ends.specs.Memory.{is_refused, stuck_of};
+ghost use Rattle.link_ends.specs.Memory.{is_refused, sink_state};
 
 use crate::marks::Marks;
 use crate::octets::NoMemory;
@@ -56,11 +56,7 @@ impl MemSink {
 }
 
 impl Sink for MemSink {
-    ghost taken = { λ s. Some s.taken };
-
-    ghost faults = { λ s. s.faults };
-
-    ghost stuck = { stuck_of };
+    ghost state = { sink_state };
 
     fn write(&mut self, piece: &[u8]) -> Result<usize, Failed>
         ensures failed { is_err result ≡ is_refused self.old piece.now }
@@ -72,15 +68,15 @@ impl Sink for MemSink {
 
         // What each sink promises.
         ensures count { IfOk result (λ n. n ≤ length piece.now) }
-        ensures bytes { IfOk result (λ n. Takes (Some self.old.taken) (Some self.new.taken) n piece.now) }
-        ensures stands { IfOk result (λ n. n ≡ 0 → 0 < length piece.now → Rose (stuck_of self.old) (stuck_of self.new)) }
-        ensures moves { IfOk result (λ n. n ≢ 0 → stuck_of self.new ≡ stuck_of self.old) }
-        ensures works { OnOk result (self.new.faults ≡ self.old.faults) }
-        ensures fails { OnErr result (Rose self.old.faults self.new.faults) }
-        ensures untaken { OnErr result (Some self.new.taken ≡ Some self.old.taken) }
-        ensures not_stuck { OnErr result (stuck_of self.new ≡ stuck_of self.old) }
-        ensures faults_stay { self.old.faults ≤ self.new.faults }
-        ensures stuck_stay { stuck_of self.old ≤ stuck_of self.new }
+        ensures bytes { IfOk result (λ n. Takes (sink_state self.old) (sink_state self.new) n piece.now) }
+        ensures stands { IfOk result (λ n. n ≡ 0 → 0 < length piece.now → Rose (sink_state self.old).stuck (sink_state self.new).stuck) }
+        ensures moves { IfOk result (λ n. n ≢ 0 → (sink_state self.new).stuck ≡ (sink_state self.old).stuck) }
+        ensures works { OnOk result ((sink_state self.new).faults ≡ (sink_state self.old).faults) }
+        ensures fails { OnErr result (Rose (sink_state self.old).faults (sink_state self.new).faults) }
+        ensures untaken { OnErr result ((sink_state self.new).taken ≡ (sink_state self.old).taken) }
+        ensures not_stuck { OnErr result ((sink_state self.new).stuck ≡ (sink_state self.old).stuck) }
+        ensures faults_stay { (sink_state self.old).faults ≤ (sink_state self.new).faults }
+        ensures stuck_stay { (sink_state self.old).stuck ≤ (sink_state self.new).stuck }
     {
         let refused = self.marks.has(self.calls) || (self.room == 0 && !piece.is_empty());
         self.calls = self.calls.saturating_add(1);

@@ -1,7 +1,7 @@
-ghost use Rattle.std.specs.Prelude.{◌≡◌, ◌≢◌, ◌<◌, ◌≤◌, Some, [], length, min, is_err, IfOk, OnOk, OnErr, MatchOption};
+ghost use Rattle.std.specs.Prelude.{◌≡◌, ◌≢◌, ◌<◌, ◌≤◌, [], length, min, is_err, IfOk, OnOk, OnErr, MatchOption};
 ghost use Rattle.link_ends.specs.Counts.{Rose, one_more};
 ghost use Rattle.link_ends.specs.Source.{Reads};
-ghost use Rattle.link_ends.specs.Memory.{is_marked};
+ghost use Rattle.link_ends.specs.Memory.{is_marked, source_state};
 
 use crate::marks::Marks;
 use crate::octets::Octets;
@@ -47,11 +47,7 @@ impl MemSource {
 }
 
 impl Source for MemSource {
-    ghost left = { λ s. Some s.left };
-
-    ghost faults = { λ s. s.faults };
-
-    ghost ends = { λ s. s.ends };
+    ghost state = { source_state };
 
     fn read(&mut self, buf: &mut [u8]) -> Result<usize, Failed>
         ensures failed { is_err result ≡ is_marked self.old.marks self.old.calls }
@@ -61,16 +57,16 @@ impl Source for MemSource {
 
         // What each source promises.
         ensures count { IfOk result (λ n. n ≤ length buf.old) }
-        ensures bytes { IfOk result (λ n. Reads (Some self.old.left) (Some self.new.left) n buf.new) }
-        ensures end { IfOk result (λ n. n ≡ 0 → 0 < length buf.old → Rose self.old.ends self.new.ends) }
-        ensures all_read { IfOk result (λ n. n ≡ 0 → 0 < length buf.old → MatchOption (Some self.old.left) (Unit {0}) (λ bytes. bytes ≡ [])) }
-        ensures more { IfOk result (λ n. n ≢ 0 → self.new.ends ≡ self.old.ends) }
-        ensures works { OnOk result (self.new.faults ≡ self.old.faults) }
-        ensures fails { OnErr result (Rose self.old.faults self.new.faults) }
-        ensures unread { OnErr result (Some self.new.left ≡ Some self.old.left) }
-        ensures no_end { OnErr result (self.new.ends ≡ self.old.ends) }
-        ensures faults_stay { self.old.faults ≤ self.new.faults }
-        ensures ends_stay { self.old.ends ≤ self.new.ends }
+        ensures bytes { IfOk result (λ n. Reads (source_state self.old) (source_state self.new) n buf.new) }
+        ensures end { IfOk result (λ n. n ≡ 0 → 0 < length buf.old → Rose (source_state self.old).ends (source_state self.new).ends) }
+        ensures all_read { IfOk result (λ n. n ≡ 0 → 0 < length buf.old → MatchOption (source_state self.old).left (Unit {0}) (λ bytes. bytes ≡ [])) }
+        ensures more { IfOk result (λ n. n ≢ 0 → (source_state self.new).ends ≡ (source_state self.old).ends) }
+        ensures works { OnOk result ((source_state self.new).faults ≡ (source_state self.old).faults) }
+        ensures fails { OnErr result (Rose (source_state self.old).faults (source_state self.new).faults) }
+        ensures unread { OnErr result ((source_state self.new).left ≡ (source_state self.old).left) }
+        ensures no_end { OnErr result ((source_state self.new).ends ≡ (source_state self.old).ends) }
+        ensures faults_stay { (source_state self.old).faults ≤ (source_state self.new).faults }
+        ensures ends_stay { (source_state self.old).ends ≤ (source_state self.new).ends }
     {
         let marked = self.marks.has(self.calls);
         self.calls = self.calls.saturating_add(1);

@@ -5,12 +5,13 @@ use Rattle.drda_gateway.proofs.input.read_all.Given as goal
 -- the text so far is what the source gave
 abbrev pub invariant-loop-buf : goal.invariant-loop-buf
 invariant-loop-buf g l =
-    let source = g.S.Source in
+    let old = g.S.Source.state l.fn.source in
+    let now = g.S.Source.state l.source in
     record {
       buffer : length l.buf ≡ 4096;
-      gave : Gave (source.left l.fn.source) (source.left l.source) l.text;
-      faults : source.faults l.fn.source ≤ source.faults l.source;
-      ends : source.ends l.fn.source ≤ source.ends l.source;
+      gave : Gave old now l.text;
+      faults : old.faults ≤ now.faults;
+      ends : old.ends ≤ now.ends;
     }
 
 abbrev pub decreases-loop-buf : goal.decreases-loop-buf

@@ -1,15 +1,17 @@
 use Rattle.std.proofs.Common.{arith, rules, subst, length, List, ℕ}
 use Rattle.std.proofs.lemmas.Slice.{between_to_end}
-use Rattle.link_ends.specs.Sink.{Takes}
+use Rattle.link_ends.specs.Sink.{SinkState, Takes}
 use Rattle.drda_gateway.proofs.Ends.{took_more}
 use Rattle.drda_gateway.proofs.output.write_all.Goals as goal
 
 pub loop-from-preserved : goal.loop-from-preserved
 loop-from-preserved g c =
-    let sink = g.K.Sink in
+    let old : SinkState = g.K.Sink.state c.args.sink.now in
+    let before : SinkState = g.K.Sink.state c.loop-from.sink in
+    let now : SinkState = g.K.Sink.state c.write.new.self in
     record {
       within = search rules;
-      took = took_more (sink.taken c.args.sink.now) (sink.taken c.loop-from.sink) (sink.taken c.write.new.self) c.args.text.now c.loop-from.from c.in_ok-count.count c.loop-from.invariant.took (subst (λ (p : List ℕ). Takes (sink.taken c.loop-from.sink) (sink.taken c.write.new.self) c.in_ok-count.count p) (between_to_end c.args.text.now c.loop-from.from (length c.args.text.now) (omega arith)) c.in_ok-count.ensures.bytes);
+      took = took_more old before now c.args.text.now c.loop-from.from c.in_ok-count.count c.loop-from.invariant.took (subst (λ (p : List ℕ). Takes before now c.in_ok-count.count p) (between_to_end c.args.text.now c.loop-from.from (length c.args.text.now) (omega arith)) c.in_ok-count.ensures.bytes);
       faults = search rules;
       stuck = search rules;
     }

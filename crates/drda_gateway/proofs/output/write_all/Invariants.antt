@@ -5,12 +5,13 @@ use Rattle.drda_gateway.proofs.output.write_all.Given as goal
 -- the text up to this place was taken, and no call has failed or stuck since
 abbrev pub invariant-loop-from : goal.invariant-loop-from
 invariant-loop-from g l =
-    let sink = g.K.Sink in
+    let old = g.K.Sink.state l.fn.sink in
+    let now = g.K.Sink.state l.sink in
     record {
       within : l.from ≤ length l.text;
-      took : Took (sink.taken l.fn.sink) (sink.taken l.sink) (take l.from l.text);
-      faults : sink.faults l.fn.sink ≤ sink.faults l.sink;
-      stuck : sink.stuck l.fn.sink ≤ sink.stuck l.sink;
+      took : Took old now (take l.from l.text);
+      faults : old.faults ≤ now.faults;
+      stuck : old.stuck ≤ now.stuck;
     }
 
 abbrev pub decreases-loop-from : goal.decreases-loop-from
