@@ -36,7 +36,7 @@ pub struct Builder {
 }
 
 impl Model for Builder {
-    ghost use Rattle.std.specs.Prelude.{◌≤◌, reverse, map};
+    ghost use Rattle.std.specs.Prelude.{◌≤◌};
     ghost use Rattle.ddm_objects.specs.Building.{Building, building_size};
 
     ghost Value = { Building };

@@ -1,4 +1,4 @@
-ghost use Rattle.std.specs.Prelude.{◌≡◌, ◌<◌, ◌≤◌, length, take, IfOk};
+ghost use Rattle.std.specs.Prelude.{◌≡◌, ◌<◌, ◌≤◌, length, IfOk};
 ghost use Rattle.dss_frame.specs.Segments.{segment_size as size_of, continues, has_bit as bit_of, kind_of, is_format_of, header_fault as first_fault, field_offset, segments_extent as extent_from, extent_of, dss_of as dss_in, body_of};
 
 use crate::dss::{Dss, Kind, Side};
