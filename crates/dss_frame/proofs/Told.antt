@@ -150,7 +150,7 @@ stream_read side limit bytes ds rest fits s no_bad no_beyond =
     let same = one_stream side (dsss_of (read side limit bytes)) ds (read side limit bytes).open rest bytes (is_stream side limit bytes fits none) s in
     (none, same.0, same.1)
 
-pub short_read : (side : Side) (limit : ℕ) (bytes : List ℕ) (ds : List Dss) (rest : List ℕ) → All (λ byte. byte < 256) bytes → IsStream side ds rest bytes
+short_read : (side : Side) (limit : ℕ) (bytes : List ℕ) (ds : List Dss) (rest : List ℕ) → All (λ byte. byte < 256) bytes → IsStream side ds rest bytes
     → ((place : ℕ) (why : Why) → IsBad side bytes place why → ⊥) → length bytes ≤ limit
     → ((read side limit bytes).fault ≡ None) × (dsss_of (read side limit bytes) ≡ ds) × ((read side limit bytes).open ≡ rest)
 short_read side limit bytes ds rest fits s no_bad short =

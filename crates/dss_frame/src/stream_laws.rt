@@ -35,24 +35,19 @@ pub fn streams_are_one()
         → IsStream side es other bytes → (ds ≡ es) × (rest ≡ other) }
 {}
 
-/// A stream is read as its DSSs, and then its rest, where no field is bad and no chain passes the limit. Where all of it is
-/// whole spellings no field is bad, and where it is no longer than the limit no chain passes it.
+/// A stream is read as its DSSs, and then its rest, where no field is bad and no chain passes the limit. In whole spellings
+/// that are no longer than the limit there is no such field and no such chain.
 pub fn stream_is_read()
-    ensures whole { (side : OfSide) (limit : ℕ) (bytes : List ℕ) (spelled : List Spelled) → All (λ byte. byte < 256) bytes
-        → Begins side spelled [] bytes → length bytes ≤ limit
-        → ((read side limit bytes).fault ≡ None) × (dsss_of (read side limit bytes) ≡ map (λ s. s.dss) spelled)
-        × ((read side limit bytes).open ≡ []) }
-    ensures short { (side : OfSide) (limit : ℕ) (bytes : List ℕ) (ds : List OneDss) (rest : List ℕ)
-        → All (λ byte. byte < 256) bytes → IsStream side ds rest bytes
-        → ((place : ℕ) (why : Reason) → IsBad side bytes place why → ⊥) → length bytes ≤ limit
-        → ((read side limit bytes).fault ≡ None) × (dsss_of (read side limit bytes) ≡ ds)
-        × ((read side limit bytes).open ≡ rest) }
     ensures within { (side : OfSide) (limit : ℕ) (bytes : List ℕ) (ds : List OneDss) (rest : List ℕ)
         → All (λ byte. byte < 256) bytes → IsStream side ds rest bytes
         → ((place : ℕ) (why : Reason) → IsBad side bytes place why → ⊥)
         → ((place : ℕ) → IsBeyond side limit bytes place → ⊥)
         → ((read side limit bytes).fault ≡ None) × (dsss_of (read side limit bytes) ≡ ds)
         × ((read side limit bytes).open ≡ rest) }
+    ensures whole { (side : OfSide) (limit : ℕ) (bytes : List ℕ) (spelled : List Spelled) → All (λ byte. byte < 256) bytes
+        → Begins side spelled [] bytes → length bytes ≤ limit
+        → ((read side limit bytes).fault ≡ None) × (dsss_of (read side limit bytes) ≡ map (λ s. s.dss) spelled)
+        × ((read side limit bytes).open ≡ []) }
 {}
 
 /// DSSs that are written one after another are read as these DSSs. By the laws of pieces whatever follows them is read
