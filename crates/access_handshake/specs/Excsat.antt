@@ -8,7 +8,7 @@ use Rattle.access_handshake.specs.declared.excsat.ExcsatAnswer.{ExcsatAnswer}
 use Rattle.access_handshake.specs.declared.excsat.ExcsatAnswer.TheVariants.{Granted, TooLow}
 use Rattle.access_handshake.specs.Managers.{sqlam, managers_of, level_pair, granted_list, is_too_low}
 
--- DDM, volume 3: MGRLVLLS
+-- DDM, volume 3, MGRLVLLS
 abbrev pub mgrlvlls : ℕ
 mgrlvlls = 0x1404
 
@@ -34,12 +34,12 @@ abbrev pub answer_to_levels : List ManagerLevel → ExcsatAnswer
 answer_to_levels asked =
     if is_too_low asked then TooLow mgrlvlrm else Granted (excsatrd (canonical_object mgrlvlls (granted_list asked)))
 
--- the answer to the levels that are asked, where they are: MGRLVLLS is answered where it stands
+-- The answer to the levels that are asked, where they are: MGRLVLLS is answered where it stands. DDM, volume 3, EXCSAT.
 abbrev pub answer_to : Result (Option Member) ObjFault → ExcsatAnswer
 answer_to (Ok (Some list)) = answer_to_levels (managers_of list.bytes)
 answer_to _ = Granted (excsatrd [])
 
--- the answer to EXCSAT with these parameters
+-- the answer to EXCSAT with these parameters: DDM, volume 3, EXCSAT
 unfoldable pub excsat_answer : List ℕ → ExcsatAnswer
 excsat_answer params = answer_to (find_of params mgrlvlls)
 

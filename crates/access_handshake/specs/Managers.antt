@@ -5,19 +5,23 @@ use Rattle.std.specs.List.{flat_map}
 use Rattle.byteorder.specs.Endian.{big_number, big_bytes}
 use Rattle.access_handshake.specs.declared.manager.ManagerLevel.{ManagerLevel}
 
--- DDM, volume 3: AGENT, SQLAM, RDB, SECMGR, CMNTCPIP
+-- the code points of managers: DDM, volume 3, AGENT
 abbrev pub agent : ℕ
 agent = 0x1403
 
+-- DDM, volume 3, SQLAM
 abbrev pub sqlam : ℕ
 sqlam = 0x2407
 
+-- DDM, volume 3, RDB
 abbrev pub rdb : ℕ
 rdb = 0x240F
 
+-- DDM, volume 3, SECMGR
 abbrev pub secmgr : ℕ
 secmgr = 0x1440
 
+-- DDM, volume 3, CMNTCPIP
 abbrev pub cmntcpip : ℕ
 cmntcpip = 0x1474
 
@@ -28,7 +32,7 @@ managers_of (a ∷ b ∷ c ∷ d ∷ rest) =
     record { code = big_number 2 (a ∷ b ∷ []); level = big_number 2 (c ∷ d ∷ []) } ∷ managers_of rest
 managers_of _ = []
 
--- the four bytes of one manager
+-- the four bytes of one manager: DDM, volume 3, MGRLVLLS
 abbrev pub level_pair : ManagerLevel → List ℕ
 level_pair manager = big_bytes 2 manager.code ++ big_bytes 2 manager.level
 
@@ -42,7 +46,7 @@ greatest_level code =
 abbrev pub granted : ManagerLevel → ManagerLevel
 granted asked = record { code = asked.code; level = min asked.level (greatest_level asked.code) }
 
--- the bytes of the levels that are granted, in the asked order
+-- the bytes of the levels that are granted, in the asked order: DDM, volume 3, MGRLVLLS
 abbrev pub granted_list : List ManagerLevel → List ℕ
 granted_list asked = flat_map (λ manager. level_pair (granted manager)) asked
 

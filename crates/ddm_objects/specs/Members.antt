@@ -9,7 +9,7 @@ AreMembers [] bytes = bytes ≡ []
 AreMembers (object ∷ objects) bytes =
     (rest : List ℕ) × Begins (record { object = object; rest = rest }) bytes × AreMembers objects rest
 
--- the objects in order, up to the first fault if there is one
+-- the objects in order, up to the first fault if there is one: DDM, volume 3, DDM objects
 pub record Members : Type 0 where
   pub objects : List Member
   pub fault : Option ObjFault
@@ -27,7 +27,7 @@ with_first (Err fault) others = record { objects = []; fault = Some fault }
 abbrev pub past : ℕ → List ℕ → Found → ℕ
 past place bytes found = place + (length bytes - length found.rest)
 
--- the members from this offset on, at most as many as count
+-- the members from this offset on, at most as many as count: DDM, volume 3, DDM objects
 unfoldable pub members_within : ℕ → ℕ → List ℕ → Members
 members_within zero place bytes = no_members
 members_within (suc count) place [] = no_members
@@ -41,7 +41,7 @@ members_from place bytes = members_within (length bytes) place bytes
 abbrev pub members_of : List ℕ → Members
 members_of bytes = members_from 0 bytes
 
--- the bytes are objects one after another, and nothing else
+-- the bytes are objects one after another, and nothing else: DDM, volume 3, DDM objects
 abbrev pub IsMembers : List ℕ → Type 0
 IsMembers bytes = (members_of bytes).fault ≡ None
 
@@ -58,7 +58,8 @@ first_with code objects = find (λ object. object.code == code) objects
 abbrev pub find_of : List ℕ → ℕ → Result (Option Member) ObjFault
 find_of bytes code = found_or_fault (members_of bytes).fault (first_with code (members_of bytes).objects)
 
--- where a scan of members stands: the offset of the next one, and the bytes that are left from there on
+-- Where a scan of members stands: the offset of the next one, and the bytes that are left from there on. A scan is this
+-- project's own.
 pub record Scan : Type 0 where
   pub at : ℕ
   pub left : List ℕ

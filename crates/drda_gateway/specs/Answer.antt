@@ -20,13 +20,14 @@ use Rattle.access_handshake.specs.declared.excsat.ExcsatAnswer.TheVariants.{Gran
 abbrev pub most_chain : ℕ
 most_chain = 16777216
 
--- the parameters of the object, where it is EXCSAT and they are objects one after another
+-- the parameters of the object, where it is EXCSAT and they are objects one after another: DDM, volume 3, EXCSAT
 abbrev pub excsat_params : Result Member ObjFault → Option (List ℕ)
 excsat_params (Ok object) =
     if object.code == 0x1041 && is_none (members_of object.bytes).fault then Some object.bytes else None
 excsat_params (Err fault) = None
 
--- the parameters of EXCSAT, where the body of a request DSS is exactly that command
+-- The parameters of EXCSAT, where the body of a request DSS is exactly that command. DRDA, volume 3, DSS: a request DSS has
+-- one command.
 unfoldable pub params_of : List ℕ → Option (List ℕ)
 params_of body = excsat_params (outer_of body)
 
@@ -35,11 +36,12 @@ is_request Request = true
 is_request Reply = false
 is_request Object = false
 
--- A request that is its chain alone. That its chain would go on after an error says nothing, since it ends there.
+-- A request that is its chain alone. That its chain would go on after an error says nothing, since it ends there. DRDA,
+-- volume 3, DSS.
 abbrev pub is_lone_request : Dss → Bool
 is_lone_request dss = is_request dss.kind && not dss.chained
 
--- a DSS that stands alone in its chain
+-- a DSS that stands alone in its chain: DRDA, volume 3, DSS
 abbrev pub lone : Kind → ℕ → List ℕ → Dss
 lone kind corr body = record { kind = kind; chained = false; same = false; go_on = false; corr = corr; body = body }
 
@@ -48,7 +50,8 @@ abbrev pub reply_dss : ℕ → ExcsatAnswer → Dss
 reply_dss corr (Granted object) = lone Object corr object
 reply_dss corr (TooLow object) = lone Reply corr object
 
--- the bytes that answer a DSS, with its correlation number; None where it is refused
+-- The bytes that answer a DSS, with its correlation number; None where it is refused. DDM, volume 3, EXCSAT; that all else
+-- is refused is this project's choice.
 unfoldable pub answer_to : Dss → Option (List ℕ)
 answer_to dss =
     if is_lone_request dss
@@ -80,7 +83,7 @@ abbrev pub refusal : List ℕ
 refusal = syntax_reply 0 0x04
 
 -- What a reader's fault is answered, with its correlation number: a chain beyond the limit has RSCLMTRM. Want of memory is
--- no fault that a reader keeps.
+-- no fault that a reader keeps. DDM, volume 3, SYNTAXRM and RSCLMTRM.
 abbrev pub fault_reply : FeedFault → List ℕ
 fault_reply (Frame at why corr) = syntax_reply corr (syntax_error why)
 fault_reply (TooLong at corr) = limit_reply corr

@@ -25,14 +25,16 @@ format_byte d = flag d.chained 64 + flag d.go_on 32 + flag d.same 16 + kind_numb
 abbrev pub segment_length : ℕ → Bool → List ℕ
 segment_length bytes continues = to_be_bytes w16 (bytes + flag continues 32768)
 
--- how many bytes of body the first segment holds, at most, and a further one
+-- DRDA, volume 3, DSS: how many bytes of body the first segment holds, at most, which has 32,767 bytes and six of them
+-- before its body
 abbrev pub first_room : ℕ
 first_room = 32761
 
+-- DRDA, volume 3, DSS: how many a further segment holds, at most, which has two bytes before its part of the body
 abbrev pub further_room : ℕ
 further_room = 32765
 
--- how many further segments hold this many bytes, where all but the last are full
+-- how many further segments hold this many bytes, where all but the last are full: this project's choice
 abbrev pub further_count : ℕ → ℕ
 further_count bytes = (bytes + 32764) / further_room
 

@@ -10,7 +10,7 @@ use Rattle.dss_frame.specs.declared.fault.Why.TheVariants.{Short, NoD0, Format, 
 use Rattle.dss_frame.specs.declared.extent.Extent.{Extent}
 use Rattle.dss_frame.specs.declared.extent.Extent.TheVariants.{Awaits, Ends, Fails}
 
--- the number in the two bytes at a place, the higher first
+-- DRDA, volume 3, DSS: the number in the two bytes at a place, the higher first
 abbrev pub number_at : ℕ → List ℕ → ℕ
 number_at place bytes = 256 * slice_index bytes place + slice_index bytes (place + 1)
 
@@ -44,7 +44,7 @@ is_format_of side format =
     is_kind_of side (format % 16) && (not (has_bit 128 format) && (not (has_bit 16 format) || has_bit 64 format))
 
 -- The first field of the header that has come whole and is none of a DSS: a length below the header's own six bytes, a
--- third byte that isn't D0, a format byte that isn't read.
+-- third byte that isn't D0, a format byte that isn't read. DRDA, volume 3, DSS.
 unfoldable pub header_fault : Side → List ℕ → Option Why
 header_fault side bytes =
     if nat_le 2 (length bytes) && nat_lt (segment_size bytes) 6 then Some Short
@@ -52,7 +52,7 @@ header_fault side bytes =
     else (if nat_le 4 (length bytes) && not (is_format_of side (slice_index bytes 3)) then Some Format
     else None))
 
--- where that field begins
+-- DRDA, volume 3, DSS: where that field begins
 abbrev pub field_offset : Why → ℕ
 field_offset Short = 0
 field_offset NoD0 = 2
@@ -75,7 +75,7 @@ abbrev pub extent_by : Option Why → List ℕ → Extent
 extent_by (Some why) bytes = Fails (field_offset why) why
 extent_by None bytes = segments_extent (length bytes) 0 bytes
 
--- what is known of the DSS that begins with these bytes: a segment has a byte at least
+-- What is known of the DSS that begins with these bytes: DRDA, volume 3, DSS. It has no more segments than bytes.
 unfoldable pub extent_of : Side → List ℕ → Extent
 extent_of side bytes = extent_by (header_fault side bytes) bytes
 

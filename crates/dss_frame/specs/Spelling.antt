@@ -19,24 +19,25 @@ IsKindOf Replies Request = ⊥
 IsKindOf _ _ = Unit {0}
 
 -- What has a spelling: a kind of that side, a number of two bytes, and the next DSS has the same number only where there
--- is a next one.
+-- is a next one. DRDA, volume 3, DSS.
 pub record IsDssOf (side : Side) (d : Dss) : Type 0 where
   pub kind : IsKindOf side d.kind
   pub corr : d.corr < 2 ^ 16
   pub same : IsTrue d.same → IsTrue d.chained
 
--- further segments that hold these parts of the body, all but the last with the top bit of the length set
+-- DRDA, volume 3, DSS: further segments that hold these parts of the body, all but the last with the top bit of the
+-- length set
 abbrev pub further_spelling : List (List ℕ) → List ℕ
 further_spelling [] = []
 further_spelling (part ∷ parts) = segment_length (2 + length part) (nat_lt 0 (length parts)) ++ (part ++ further_spelling parts)
 
--- what a further segment holds
+-- What a further segment holds: DRDA, volume 3, DSS. That it isn't empty is this project's choice.
 pub record IsPart (part : List ℕ) : Type 0 where
   pub some : 0 < length part
   pub fits : length part ≤ 32765
 
 -- The bytes are a spelling of the DSS: its body is cut into a first part, behind the header, and further parts, each in a
--- segment of its own. Without further parts this is the spelling in one segment.
+-- segment of its own. Without further parts this is the spelling in one segment. DRDA, volume 3, DSS.
 pub record Spells (side : Side) (d : Dss) (bytes : List ℕ) : Type 0 where
   pub first : List ℕ
   pub parts : List (List ℕ)
@@ -54,24 +55,25 @@ pub record Spelled : Type 0 where
 abbrev pub IsSpelled : Side → Spelled → Type 0
 IsSpelled side s = Spells side s.dss s.bytes
 
--- The bytes are spellings of DSSs one after another, and then a rest.
+-- The bytes are spellings of DSSs one after another, as they are sent, and then a rest. DRDA, volume 3, DSS.
 pub record Begins (side : Side) (spelled : List Spelled) (rest bytes : List ℕ) : Type 0 where
   pub each : AllByRecursion (IsSpelled side) spelled
   pub all : bytes ≡ flat_map (λ s. s.bytes) spelled ++ rest
 
--- The bytes are spellings of these DSSs, and then a rest that doesn't begin with a spelling.
+-- The bytes are spellings of these DSSs, and then a rest that doesn't begin with a spelling. DRDA, volume 3, DSS.
 pub record IsStream (side : Side) (dsss : List Dss) (rest bytes : List ℕ) : Type 0 where
   pub spelled : List Spelled
   pub are : map (λ s. s.dss) spelled ≡ dsss
   pub begins : Begins side spelled rest bytes
   pub no_more : (d : Dss) (count : ℕ) → Spells side d (take count rest) → ⊥
 
--- segments that aren't the last hold these parts
+-- DRDA, volume 3, DSS: segments that aren't the last hold these parts
 abbrev pub open_spelling : List (List ℕ) → List ℕ
 open_spelling [] = []
 open_spelling (part ∷ parts) = segment_length (2 + length part) true ++ (part ++ open_spelling parts)
 
--- After these segments of the DSS d, none of which is the last, a length stands that is below 3.
+-- After these segments of a DSS, none of which is the last, a length stands that is below 3. DRDA, volume 3, DSS: a length
+-- counts its own two bytes; that a byte of body follows is this project's choice.
 pub record IsBadFurther (side : Side) (offset : ℕ) (bytes : List ℕ) : Type 0 where
   pub dss : Dss
   pub first : List ℕ
@@ -96,7 +98,8 @@ IsBadField side bytes offset Format =
 IsBadField side bytes offset Continue = IsBadFurther side offset bytes
 
 -- The field at a place is the first after which the bytes, however they go on, aren't whole spellings: it stands in what
--- follows the last whole one.
+-- follows the last whole one. The fields are those of DRDA, volume 3, DSS; that the first one decides is this project's
+-- choice.
 pub record IsBad (side : Side) (bytes : List ℕ) (place : ℕ) (why : Why) : Type 0 where
   pub spelled : List Spelled
   pub rest : List ℕ
@@ -105,7 +108,8 @@ pub record IsBad (side : Side) (bytes : List ℕ) (place : ℕ) (why : Why) : Ty
   pub field : IsBadField side rest offset why
   pub there : place ≡ length (flat_map (λ s. s.bytes) spelled) + offset
 
--- how many bytes the chain has that goes on after these DSSs, and so many before them
+-- How many bytes the chain has that goes on after these DSSs, and so many before them. DRDA, volume 3, DSS: a chain goes on
+-- behind a chained DSS.
 abbrev pub chain_after : ℕ → List Spelled → ℕ
 chain_after bytes [] = bytes
 chain_after bytes (s ∷ others) = chain_after (if s.dss.chained then bytes + length s.bytes else 0) others
