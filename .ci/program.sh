@@ -1,0 +1,117 @@
+#!/usr/bin/env bash
+# Runs the built program with each kind of words, scripts, inputs and outputs, and compares its status and every byte
+# that it writes. It names each difference, and ends with status 1 where there is one.
+#
+# Usage: .ci/program.sh PROGRAM
+set -u
+cd "$(dirname "$0")/.." || exit 1
+program=$(realpath "$1") || exit 1
+folder=$(mktemp -d)
+trap 'rm -rf "$folder"' EXIT
+passed=0
+failed=0
+
+usage='usage: drda_gateway play [--brief]'
+
+# What the last run left, against the status that is wanted and the bytes of the file `wanted`. Nothing is ever written
+# to standard error.
+compare() { # NAME STATUS
+    if [ "$status" != "$2" ]; then
+        echo "program: $1: status $status, wanted $2"
+    elif ! cmp -s "$folder/output" "$folder/wanted"; then
+        echo "program: $1: wrote other bytes than wanted:"
+        diff "$folder/output" "$folder/wanted" | head -n 5
+    elif [ -s "$folder/errors" ]; then
+        echo "program: $1: wrote to standard error:"
+        head -n 5 "$folder/errors"
+    else
+        passed=$((passed + 1))
+        return
+    fi
+    failed=$((failed + 1))
+}
+
+# The status and the lines wanted of the program with these words, on the script that stands in `script`.
+check() { # NAME STATUS LINES WORD..
+    local name=$1 wanted=$2
+    printf '%s' "${3:+$3$'\n'}" >"$folder/wanted"
+    shift 3
+    "$program" "$@" <"$folder/script" >"$folder/output" 2>"$folder/errors"
+    status=$?
+    compare "$name" "$wanted"
+}
+
+header=$'rdb SAMPLE\ncap 2\nmember 1 1\nmember 2 1\nuser ALICE SECRET\n'
+counts='count commits 0 dials 0 reuses 0 losses 0'
+
+# Words: those of `play` alone are right.
+printf '%s' "$header" >"$folder/script"
+check 'play' 0 "$counts" play
+check 'no word' 1 "$usage"
+check 'an unknown word' 1 "$usage" run
+check 'an unknown option' 1 "$usage" play --fast
+check 'a word too many' 1 "$usage" play play
+check 'an empty word' 1 "$usage" ''
+check 'a word that is not UTF-8' 1 "$usage" $'\xFF'
+check 'a second word that is not UTF-8' 1 "$usage" play $'\xC3'
+
+# Scripts: good ones, and one that is refused for each reason.
+cp crates/drda_gateway/stdin "$folder/script"
+cp crates/drda_gateway/stdout "$folder/wanted"
+"$program" play <"$folder/script" >"$folder/output" 2>"$folder/errors"
+status=$?
+compare 'the stored script' 0
+printf '%sapp 1 0005\r\n' "$header" >"$folder/script"
+check 'a carriage return' 2 'script refused: line 6 word' play
+printf '%s\r\n' "$header" >"$folder/script"
+check 'a blank line with a carriage return' 2 'script refused: line 6 word' play
+printf '# \xFF\r\n%s' "$header" >"$folder/script"
+check 'any bytes in a comment' 0 "$counts" play
+: >"$folder/script"
+check 'an empty script' 2 'script refused: line 1 order' play
+printf 'cap 2\n' >"$folder/script"
+check 'no rdb' 2 'script refused: line 1 order' play
+printf '%sapp 65\n' "$header" >"$folder/script"
+check 'an application too many' 2 'script refused: line 6 field' play
+{ printf '%s' "$header"; head -c 16777217 /dev/zero | tr '\0' '#'; } >"$folder/script"
+check 'a script that is too long' 2 'script refused: line 0 long' play
+
+# A script and a report that no single read or write moves.
+requests=300
+{
+    printf '%s' "$header"
+    for _ in $(seq $requests); do echo 'app 1 000AD001000100041041'; done
+    echo 'settle 1000000'
+} >"$folder/script"
+reply=0027D003000100211443000A1147C4D9C4C1C7E6000B116DC7C1E3C5E6C1E80008115AC7E6F0F1
+report="app 1 sent $(for _ in $(seq $requests); do printf '%s' "$reply"; done)"$'\napp 1 open\n'
+report+="$(for _ in $(seq $requests); do echo 'log answer 1'; done)"$'\n'"$counts"
+check 'a long script and a long report' 0 "$report" play
+"$program" play <"$folder/script" | cat >"$folder/output"
+printf '%s\n' "$report" >"$folder/wanted"
+cmp -s "$folder/output" "$folder/wanted"
+status=$?
+compare 'a long report through a pipe' 0
+
+# Inputs and outputs that fail.
+cp crates/drda_gateway/stdin "$folder/script"
+: >"$folder/wanted"
+"$program" play <"$folder" >"$folder/output" 2>"$folder/errors"
+status=$?
+compare 'a folder as standard input' 3
+"$program" play <&- >"$folder/output" 2>"$folder/errors"
+status=$?
+compare 'standard input closed' 3
+: >"$folder/output"
+"$program" play <"$folder/script" >/dev/full 2>"$folder/errors"
+status=$?
+compare 'standard output full' 4
+"$program" play <"$folder/script" >&- 2>"$folder/errors"
+status=$?
+compare 'standard output closed' 4
+"$program" run <"$folder/script" >/dev/full 2>"$folder/errors"
+status=$?
+compare 'the usage to a full standard output' 1
+
+echo "program: $passed passed, $failed failed"
+[ "$failed" -eq 0 ]
