@@ -1,5 +1,7 @@
--- What a sink is seen as, and what one write does to it. No standard speaks of sinks: they are this project's own.
-use Rattle.std.specs.Prelude.{ℕ, List, ◌++◌, ◌≡◌, Option, Some, MatchOption, take}
+-- What a sink is seen as, and what one write does. No standard speaks of sinks: they are this project's own.
+use Rattle.std.specs.Prelude.{ℕ, List, ◌++◌, ◌≡◌, ◌≤◌, Bool, ◌&&◌, nat_eq, nat_lt, Option, option_map, Result, MatchResult, length, take}
+use Rattle.link_ends.specs.declared.source.Failed.{Failed}
+use Rattle.link_ends.specs.Counts.{one_more, counted}
 
 pub record SinkState : Type 0 where
   -- the bytes that were taken so far, where it tells them
@@ -8,6 +10,29 @@ pub record SinkState : Type 0 where
   pub faults : ℕ
   pub stuck : ℕ
 
--- the first count bytes of the piece were taken, and no others, where the sink tells its bytes
-abbrev pub Takes : SinkState → SinkState → ℕ → List ℕ → Type 0
-Takes old new count piece = MatchOption old.taken (Unit {0}) (λ bytes. new.taken ≡ Some (bytes ++ take count piece))
+-- a write is stuck that takes no byte, though the piece has some
+abbrev pub is_stuck : ℕ → List ℕ → Bool
+is_stuck count piece = nat_eq count 0 && nat_lt 0 (length piece)
+
+-- a sink after a write that took the first count bytes of the piece, and no others: no fault was counted
+abbrev pub after_write : SinkState → ℕ → List ℕ → SinkState
+after_write old count piece =
+    record {
+      taken = option_map (λ taken. taken ++ take count piece) old.taken;
+      faults = old.faults;
+      stuck = counted (is_stuck count piece) old.stuck;
+    }
+
+-- a sink after a write that failed: one more fault was counted, and nothing else is changed
+abbrev pub after_failed_write : SinkState → SinkState
+after_failed_write old = record old { faults = one_more old.faults }
+
+-- A write took the first count bytes of the piece.
+pub record IsTaken (count : ℕ) (old new : SinkState) (piece : List ℕ) : Type 0 where
+  pub within : count ≤ length piece
+  pub after : new ≡ after_write old count piece
+
+-- what one write of the piece does, with what it answers
+abbrev pub IsWritten : Result ℕ Failed → SinkState → SinkState → List ℕ → Type 0
+IsWritten result old new piece =
+    MatchResult result (λ count. IsTaken count old new piece) (λ _. new ≡ after_failed_write old)

@@ -6,15 +6,20 @@ mod marks;
 mod mem_sink;
 mod mem_source;
 mod octets;
+mod sequence;
+mod short;
 mod sink;
 mod source;
+mod tape;
 
 pub use marks::Marks;
 pub use mem_sink::MemSink;
 pub use mem_source::MemSource;
 pub use octets::{NoMemory, Octets};
+pub use sequence::{OctetsList, Sequence};
 pub use sink::Sink;
 pub use source::{Failed, Source};
+pub use tape::Tape;
 
 #[cfg(test)]
 mod tests;

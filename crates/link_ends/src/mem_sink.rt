@@ -1,6 +1,6 @@
-ghost use Rattle.std.specs.Prelude.{◌≡◌, ◌≢◌, ◌-◌, ◌<◌, ◌≤◌, [], length, min, is_err, IfOk, OnOk, OnErr};
-ghost use Rattle.link_ends.specs.Counts.{Rose, one_more};
-ghost use Rattle.link_ends.specs.Sink.{Takes};
+ghost use Rattle.std.specs.Prelude.{◌≡◌, ◌-◌, [], length, min, is_err, IfOk, OnErr};
+ghost use Rattle.link_ends.specs.Counts.{one_more};
+ghost use Rattle.link_ends.specs.Sink.{IsWritten};
 ghost use Rattle.link_ends.specs.Memory.{is_refused, sink_state};
 
 use crate::marks::Marks;
@@ -65,18 +65,7 @@ impl Sink for MemSink {
         ensures no_room { OnErr result (self.new.room ≡ self.old.room) }
         ensures call { self.new.calls ≡ one_more self.old.calls }
         ensures marks { self.new.marks ≡ self.old.marks }
-
-        // What each sink promises.
-        ensures count { IfOk result (λ n. n ≤ length piece.now) }
-        ensures bytes { IfOk result (λ n. Takes (sink_state self.old) (sink_state self.new) n piece.now) }
-        ensures stands { IfOk result (λ n. n ≡ 0 → 0 < length piece.now → Rose (sink_state self.old).stuck (sink_state self.new).stuck) }
-        ensures moves { IfOk result (λ n. n ≢ 0 → (sink_state self.new).stuck ≡ (sink_state self.old).stuck) }
-        ensures works { OnOk result ((sink_state self.new).faults ≡ (sink_state self.old).faults) }
-        ensures fails { OnErr result (Rose (sink_state self.old).faults (sink_state self.new).faults) }
-        ensures untaken { OnErr result ((sink_state self.new).taken ≡ (sink_state self.old).taken) }
-        ensures not_stuck { OnErr result ((sink_state self.new).stuck ≡ (sink_state self.old).stuck) }
-        ensures faults_stay { (sink_state self.old).faults ≤ (sink_state self.new).faults }
-        ensures stuck_stay { (sink_state self.old).stuck ≤ (sink_state self.new).stuck }
+        ensures written { IsWritten result (sink_state self.old) (sink_state self.new) piece.now }
     {
         let refused = self.marks.has(self.calls) || (self.room == 0 && !piece.is_empty());
         self.calls = self.calls.saturating_add(1);

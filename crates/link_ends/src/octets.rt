@@ -1,5 +1,7 @@
-ghost use Rattle.std.specs.Prelude.{◌≡◌, ◌==◌, ◌++◌, [], length, take, IfOk, OnOk, OnErr};
+ghost use Rattle.std.specs.Prelude.{◌≡◌, ◌==◌, ◌++◌, ◌+◌, ◌≤◌, [], length, take, drop, slice_range, IfOk, OnOk, OnErr};
 
+use crate::short::{SHORT, Short};
+use bytes::{Bytes, BytesMut};
 use std::alloc::{AllocError, AllocFailed, Global};
 use std::marker::Model;
 
@@ -19,10 +21,23 @@ impl<T: Drop> From<AllocFailed<T>> for NoMemory {
     }
 }
 
-/// A list of bytes that can grow.
+/// Where the bytes of a list are kept.
+#[derive(Debug, Drop)]
+enum Kept {
+    /// In the value itself.
+    Inside(Short),
+    /// In a buffer that grows, and that no other list shares.
+    Own(BytesMut),
+    /// In a buffer that other lists may share.
+    Shared(Bytes),
+}
+
+/// A list of bytes that can grow. A short one stands in the value itself and takes no memory; the parts of a long one
+/// that was made of bytes at once, or taken from the front of another, share its buffer.
 #[derive(Debug, Drop)]
 pub struct Octets {
-    bytes: Vec<u8>,
+    alloc: Global,
+    kept: Kept,
 }
 
 impl Model for Octets {
@@ -30,7 +45,9 @@ impl Model for Octets {
 
     ghost Value = { List ℕ };
 
-    ghost view = { λ o. o.bytes.items };
+    ghost use Rattle.link_ends.specs.Kept.{kept_bytes};
+
+    ghost view = { λ o. kept_bytes o.kept };
 }
 
 impl Octets {
@@ -39,7 +56,8 @@ impl Octets {
         ensures { result ≡ [] }
     {
         Octets {
-            bytes: Vec::new(alloc),
+            alloc,
+            kept: Kept::Inside(Short::new()),
         }
     }
 
@@ -47,8 +65,36 @@ impl Octets {
     pub fn of(alloc: Global, bytes: &[u8]) -> Result<Octets, NoMemory>
         ensures { IfOk result (λ octets. octets ≡ bytes.now) }
     {
-        let bytes = Vec::from_slice(alloc, bytes)?;
-        Ok(Octets { bytes })
+        if bytes.len() > SHORT {
+            let bytes = Bytes::copy_from_slice(alloc, bytes)?;
+            return Ok(Octets::from_shared(alloc, bytes));
+        }
+        let mut short = Short::new();
+        short.push_all(bytes);
+        Ok(Octets {
+            alloc,
+            kept: Kept::Inside(short),
+        })
+    }
+
+    /// The bytes of a buffer, which is taken over. It takes no memory.
+    pub fn from_grown(bytes: BytesMut) -> Octets
+        ensures { result ≡ bytes.items }
+    {
+        Octets {
+            alloc: *bytes.allocator(),
+            kept: Kept::Own(bytes),
+        }
+    }
+
+    /// The bytes of a buffer that others may share. It takes no memory.
+    pub fn from_shared(alloc: Global, bytes: Bytes) -> Octets
+        ensures { result ≡ bytes }
+    {
+        Octets {
+            alloc,
+            kept: Kept::Shared(bytes),
+        }
     }
 
     /// Appends these bytes.
@@ -56,35 +102,115 @@ impl Octets {
         ensures ok { OnOk result (self.new ≡ self.old ++ bytes.now) }
         ensures err { OnErr result (self.new ≡ self.old) }
     {
-        self.bytes.extend_from_slice(bytes)?;
+        match &mut self.kept {
+            Kept::Own(buffer) => {
+                buffer.extend_from_slice(bytes)?;
+                return Ok(());
+            }
+            Kept::Inside(short) if bytes.len() <= SHORT - short.len() => {
+                short.push_all(bytes);
+                return Ok(());
+            }
+            _ => {}
+        }
+        let grown = grown(self.alloc, self.as_slice(), bytes)?;
+        self.kept = Kept::Own(grown);
         Ok(())
+    }
+
+    /// Gives up the first `count` bytes.
+    pub fn advance(&mut self, count: usize)
+        requires { count ≤ length self.old }
+        ensures { self.new ≡ drop count self.old }
+    {
+        match &mut self.kept {
+            Kept::Inside(bytes) => bytes.advance(count),
+            Kept::Own(bytes) => bytes.advance(count),
+            Kept::Shared(bytes) => bytes.advance(count),
+        }
+    }
+
+    /// Hands out the first `count` bytes, and keeps the others. Where there are many, the two share a buffer.
+    pub fn cut(&mut self, count: usize) -> Result<Octets, NoMemory>
+        requires { count ≤ length self.old }
+        ensures front { IfOk result (λ front. front ≡ take count self.old) }
+        ensures rest { OnOk result (self.new ≡ drop count self.old) }
+        ensures err { OnErr result (self.new ≡ self.old) }
+    {
+        let alloc = self.alloc;
+        let front = match &mut self.kept {
+            Kept::Own(bytes) if count > SHORT => bytes.freeze_to(count)?,
+            Kept::Shared(bytes) if count > SHORT => bytes.split_to(count)?,
+            _ => {
+                let front = Octets::of(alloc, &self.as_slice()[..count])?;
+                self.advance(count);
+                return Ok(front);
+            }
+        };
+        Ok(Octets::from_shared(alloc, front))
     }
 
     /// Keeps the first `len` bytes, or all of them where there are no more.
     pub fn truncate(&mut self, len: usize)
         ensures { self.new ≡ take len self.old }
     {
-        self.bytes.truncate(len);
+        match &mut self.kept {
+            Kept::Inside(bytes) => bytes.truncate(len),
+            Kept::Own(bytes) => bytes.truncate(len),
+            Kept::Shared(bytes) => bytes.truncate(len),
+        }
     }
 
     /// The bytes, oldest first.
     pub fn as_slice(&self) -> &[u8]
         ensures { result.now ≡ self.now }
     {
-        self.bytes.as_slice()
+        match &self.kept {
+            Kept::Inside(bytes) => bytes.as_slice(),
+            Kept::Own(bytes) => bytes.as_slice(),
+            Kept::Shared(bytes) => bytes.as_slice(),
+        }
     }
 
     /// How many bytes there are.
     pub fn len(&self) -> usize
         ensures { result ≡ length self.now }
     {
-        self.bytes.len()
+        match &self.kept {
+            Kept::Inside(bytes) => bytes.len(),
+            Kept::Own(bytes) => bytes.len(),
+            Kept::Shared(bytes) => bytes.len(),
+        }
     }
 
     /// Whether there are none.
     pub fn is_empty(&self) -> bool
         ensures { result ≡ (length self.now == 0) }
     {
-        self.bytes.is_empty()
+        self.len() == 0
     }
+
+    /// The bytes from `from` up to `to`, as a list of their own. A long part of a buffer that others may share shares it.
+    pub fn part(&self, from: usize, to: usize) -> Result<Octets, NoMemory>
+        requires order { from ≤ to }
+        requires within { to ≤ length self.now }
+        ensures { IfOk result (λ octets. octets ≡ slice_range self.now from to) }
+    {
+        match &self.kept {
+            Kept::Shared(bytes) if to - from > SHORT => {
+                Ok(Octets::from_shared(self.alloc, bytes.slice(from..to)?))
+            }
+            _ => Octets::of(self.alloc, &self.as_slice()[from..to]),
+        }
+    }
+}
+
+/// A buffer with these bytes, and others behind them.
+fn grown(alloc: Global, bytes: &[u8], more: &[u8]) -> Result<BytesMut, NoMemory>
+    ensures { IfOk result (λ grown. grown.items ≡ bytes.now ++ more.now) }
+{
+    let mut grown = BytesMut::with_capacity(alloc, bytes.len().saturating_add(more.len()))?;
+    grown.extend_from_slice(bytes)?;
+    grown.extend_from_slice(more)?;
+    Ok(grown)
 }

@@ -1,4 +1,5 @@
-use crate::{Failed, Marks, MemSink, MemSource, NoMemory, Octets, Sink, Source};
+use crate::{Failed, Marks, MemSink, MemSource, NoMemory, Octets, OctetsList, Sink, Source, Tape};
+use bytes::{Bytes, BytesMut};
 use std::alloc::Global;
 use std::test::Fail;
 
@@ -8,6 +9,15 @@ fn source(alloc: Global, bytes: &[u8], fails: &[u32]) -> Result<MemSource, NoMem
 
 fn sink(alloc: Global, room: u32, fails: &[u32]) -> Result<MemSink, NoMemory> {
     MemSink::new(alloc, room, Marks::of(alloc, fails)?)
+}
+
+/// The bytes 0 to 39: more than stand in a value.
+fn forty() -> [u8; 40] {
+    let mut bytes = [0u8; 40];
+    for i in 0u8..40 {
+        bytes[i as usize] = i;
+    }
+    bytes
 }
 
 #[test]
@@ -22,6 +32,71 @@ fn octets_grow(rt: HostRuntime) -> Result<(), Fail> {
     octets.truncate(2);
     octets.truncate(5);
     assert_eq!(rt; octets.as_slice(), b"ab".as_slice());
+    octets.push_all(&forty())?;
+    octets.push_all(b"d")?;
+    assert_eq!(rt; octets.len(), 43);
+    assert_eq!(rt; &octets.as_slice()[..3], b"ab\x00".as_slice());
+    assert_eq!(rt; &octets.as_slice()[40..], b"\x26\x27d".as_slice());
+    Ok(())
+}
+
+#[test]
+fn a_part_stays_as_it_is_where_the_whole_grows(rt: HostRuntime) -> Result<(), Fail> {
+    let frame = Octets::of(rt.alloc(), b"\x00\x0A\xD0\x01\x00\x01")?;
+    assert_eq!(rt;
+        frame.part(2, 6)?.as_slice(),
+        b"\xD0\x01\x00\x01".as_slice()
+    );
+    let bytes = forty();
+    let mut whole = Octets::of(rt.alloc(), &bytes)?;
+    let part = whole.part(1, 40)?;
+    let inner = part.part(2, 38)?;
+    whole.push_all(b"more")?;
+    whole.advance(3);
+    assert_eq!(rt; part.as_slice(), &bytes[1..]);
+    assert_eq!(rt; inner.as_slice(), &bytes[3..39]);
+    assert_eq!(rt; whole.len(), 41);
+    Ok(())
+}
+
+#[test]
+fn octets_are_cut_from_the_front(rt: HostRuntime) -> Result<(), Fail> {
+    let bytes = forty();
+    let grown = BytesMut::copy_from_slice(rt.alloc(), &bytes)?;
+    let mut octets = Octets::from_grown(grown);
+    assert_eq!(rt; octets.cut(2)?.as_slice(), &bytes[..2]);
+    assert_eq!(rt; octets.cut(30)?.as_slice(), &bytes[2..32]);
+    assert_eq!(rt; octets.as_slice(), &bytes[32..]);
+    let shared = Bytes::copy_from_slice(rt.alloc(), &bytes)?;
+    let mut octets = Octets::from_shared(rt.alloc(), shared);
+    assert_eq!(rt; octets.cut(30)?.as_slice(), &bytes[..30]);
+    assert_eq!(rt; octets.as_slice(), &bytes[30..]);
+    Ok(())
+}
+
+#[test]
+fn a_list_keeps_its_elements_in_order(rt: HostRuntime) -> Result<(), Fail> {
+    let mut list = OctetsList::new(rt.alloc());
+    assert!(rt; list.is_empty());
+    list.push(Octets::of(rt.alloc(), b"a")?)?;
+    list.push(Octets::of(rt.alloc(), b"bc")?)?;
+    assert_eq!(rt; list.len(), 2);
+    assert_eq!(rt; list.as_slice().len(), 2);
+    assert_eq!(rt; list.get(1).map(|octets| octets.len()), Some(2));
+    assert!(rt; list.get(2).is_none());
+    Ok(())
+}
+
+#[test]
+fn a_tape_is_taken_from_its_place(rt: HostRuntime) -> Result<(), Fail> {
+    let mut tape = Tape::new(Octets::of(rt.alloc(), b"abcd")?);
+    tape.take(3);
+    tape.push_all(b"e")?;
+    assert_eq!(rt; tape.taken(), b"abc".as_slice());
+    assert_eq!(rt; tape.left(), b"de".as_slice());
+    tape.forget();
+    assert!(rt; tape.taken().is_empty());
+    assert_eq!(rt; tape.left(), b"de".as_slice());
     Ok(())
 }
 
