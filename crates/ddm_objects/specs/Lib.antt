@@ -1,6 +1,5 @@
 pub mod Objects
 pub mod Members
-pub mod Building
+pub mod Builder
+pub mod BuilderFields
 pub mod Seen
-pub mod Kept
-pub mod Inside

@@ -1,15 +1,15 @@
--- Objects one after another, as the parameters of a command are. DDM, volume 3, DDM objects: a collection.
-use Rattle.std.specs.Prelude.{◌≡◌, ℕ, zero, suc, ◌+◌, ◌-◌, List, [], ◌∷◌, length, ◌==◌, Option, None, Some, find, Result, Ok, Err}
+-- Objects one after another, as the parameters of a command are. DRDA, volume 3 (DDM), DDM objects: a collection.
+use Rattle.std.specs.Prelude.{◌≡◌, ℕ, zero, suc, ◌+◌, ◌-◌, ◌<◌, List, [], ◌∷◌, length, take, drop, ◌==◌, Option, None, Some, find, Result, Ok, Err}
 use Rattle.ddm_objects.specs.declared.fault.ObjFault.{ObjFault}
-use Rattle.ddm_objects.specs.Objects.{Member, Found, Begins, object_at}
+use Rattle.ddm_objects.specs.Objects.{Member, Found, StartsWith, object_at}
 
--- the bytes are these objects one after another, each of which says where it ends: DDM, volume 3, DDM objects
+-- the bytes are these objects one after another, each of which says where it ends: DDM objects
 abbrev pub AreMembers : List Member → List ℕ → Type 0
 AreMembers [] bytes = bytes ≡ []
 AreMembers (object ∷ objects) bytes =
-    (rest : List ℕ) × Begins (record { object = object; rest = rest }) bytes × AreMembers objects rest
+    (rest : List ℕ) × StartsWith (record { object = object; rest = rest }) bytes × AreMembers objects rest
 
--- the objects in order, up to the first fault if there is one: DDM, volume 3, DDM objects
+-- the objects in order, up to the first fault if there is one: DDM objects
 pub record Members : Type 0 where
   pub objects : List Member
   pub fault : Option ObjFault
@@ -27,7 +27,7 @@ with_first (Err fault) others = record { objects = []; fault = Some fault }
 abbrev pub past : ℕ → List ℕ → Found → ℕ
 past place bytes found = place + (length bytes - length found.rest)
 
--- the members from this offset on, at most as many as count: DDM, volume 3, DDM objects
+-- the members from this offset on, at most as many as count: DDM objects
 unfoldable pub members_within : ℕ → ℕ → List ℕ → Members
 members_within zero place bytes = no_members
 members_within (suc count) place [] = no_members
@@ -41,9 +41,17 @@ members_from place bytes = members_within (length bytes) place bytes
 abbrev pub members_of : List ℕ → Members
 members_of bytes = members_from 0 bytes
 
--- the bytes are objects one after another, and nothing else: DDM, volume 3, DDM objects
+-- the bytes are objects one after another, and nothing else: DDM objects
 abbrev pub IsMembers : List ℕ → Type 0
 IsMembers bytes = (members_of bytes).fault ≡ None
+
+-- The fault is the first: before its place stand these objects one after another, at its place begins none, and it is the
+-- one of what does begin there. DDM objects; which fault it is: this project's choice.
+pub record IsFirstFault (fault : ObjFault) (objects : List Member) (bytes : List ℕ) : Type 0 where
+  pub before : AreMembers objects (take fault.at bytes)
+  pub within : fault.at < length bytes
+  pub none : (found : Found) → StartsWith found (drop fault.at bytes) → ⊥
+  pub why : object_at fault.at (drop fault.at bytes) ≡ Err fault
 
 abbrev pub found_or_fault : Option ObjFault → Option Member → Result (Option Member) ObjFault
 found_or_fault None found = Ok found

@@ -1,11 +1,13 @@
-ghost use Rattle.std.specs.Prelude.{◌≡◌, ◌+◌, ◌<◌, ◌≤◌, ◌^◌, ◌++◌, [], length, drop, sum_by, OnOk, OnErr, IfOk};
+ghost use Rattle.std.specs.Prelude.{◌≡◌, ◌+◌, ◌<◌, ◌≤◌, ◌^◌, ◌++◌, ◌↔◌, ◌-◌, [], IsTrue, length, take, drop, OnOk, OnErr};
 ghost use Rattle.byteorder.specs.Endian.{big_bytes};
 ghost use Rattle.ddm_objects.specs.Objects.{canonical_object};
-ghost use Rattle.ddm_objects.specs.Building.{nothing_built, building_size, after_begin, after_put, after_end, with_bytes};
-ghost use Rattle.ddm_objects.specs.Kept.{kept, open_size, IsInnermost, FitsInnermost};
+ghost use Rattle.ddm_objects.specs.Builder.{nothing_built, greatest_built, greatest_depth, building_size, HasRoomFor, HasRoomToEnd, IsLong};
+ghost use Rattle.ddm_objects.specs.Builder.{after_begin, after_put, after_end};
 
-use crate::object::{EXTENDED_4, HEADER};
+use crate::object::{EXTENDED_4, GREATEST_EXTENDED, HEADER};
+use arrayvec::ArrayVec;
 use byteorder::{BigEndian, ByteOrder};
+use bytes::BytesMut;
 use link_ends::{NoMemory, Octets};
 use std::alloc::Global;
 use std::marker::Model;
@@ -13,39 +15,41 @@ use std::marker::Model;
 /// The greatest size of data that have a short length, in bytes.
 const GREATEST_SHORT: usize = 32_763;
 
-/// How many bytes the longest header has that is written.
-const LONGEST_HEADER: usize = 8;
+/// How many bytes an extended length has that is written.
+const EXTENDED: usize = 4;
 
-/// How many bytes can be built.
-const GREATEST_SIZE: usize = 33_554_432;
+/// How many bytes can be built: as many as an object may have.
+const GREATEST_BUILT: usize = GREATEST_EXTENDED as usize;
 
-/// An object that is begun, with its data so far.
-#[derive(Debug, Drop)]
-struct OpenObject {
+/// How many objects may be begun at a time.
+const GREATEST_DEPTH: usize = 8;
+
+/// An object that is begun: where its header will stand, and its code point.
+#[derive(Clone, Copy, Debug, Default)]
+struct BegunObject {
+    at: usize,
     code: u16,
-    bytes: Octets,
 }
 
 /// Objects that are being written, one within another. Each is written with the shortest length that it has: two
 /// bytes up to 32,763 bytes of data, and four more above.
 #[derive(Debug, Drop)]
 pub struct Builder {
-    alloc: Global,
-    written: Octets,
-    begun: Vec<OpenObject>,
+    bytes: BytesMut,
+    begun: ArrayVec<BegunObject, GREATEST_DEPTH>,
 }
 
 impl Model for Builder {
-    ghost use Rattle.std.specs.Prelude.{◌≤◌};
-    ghost use Rattle.ddm_objects.specs.Building.{Building, building_size};
+    ghost use Rattle.std.specs.Prelude.{◌≤◌, length, reverse};
+    ghost use Rattle.ddm_objects.specs.Builder.{Building, greatest_built};
 
     ghost Value = { Building };
 
-    ghost use Rattle.ddm_objects.specs.Inside.{building_of};
+    ghost use Rattle.ddm_objects.specs.BuilderFields.{building_of, IsWhole};
 
-    ghost view = { building_of };
+    ghost view = { λ b. building_of b.begun.items b.bytes.items };
 
-    ghost invariant = { λ b. building_size (building_of b) ≤ 33554432 };
+    ghost invariant = { λ b. IsWhole (reverse b.begun.items) b.bytes.items × (length b.bytes.items ≤ greatest_built) };
 }
 
 impl Builder {
@@ -54,9 +58,8 @@ impl Builder {
         ensures { result ≡ nothing_built }
     {
         Builder {
-            alloc,
-            written: Octets::new(alloc),
-            begun: Vec::new(alloc),
+            bytes: BytesMut::new(alloc),
+            begun: ArrayVec::new(),
         }
     }
 
@@ -67,50 +70,60 @@ impl Builder {
         self.begun.len()
     }
 
-    /// How many more bytes there is room for, where each begun object has the longest header. One that is begun takes
-    /// eight of them.
+    /// How many more bytes there is room for. Beginning an object takes four of them, and so does ending one that is
+    /// long.
     pub fn room(&self) -> usize
-        ensures { result + building_size self.now ≡ 33554432 }
+        ensures { result + building_size self.now ≡ greatest_built }
     {
-        GREATEST_SIZE - self.written.len() - begun_size(&self.begun)
+        GREATEST_BUILT - self.bytes.len()
+    }
+
+    /// Whether the innermost object has more data than a short length can say.
+    pub fn is_long(&self) -> bool
+        ensures { IsTrue result ↔ IsLong self.now.begun }
+    {
+        if self.begun.is_empty() {
+            return false;
+        }
+        let object = self.begun[self.begun.len() - 1];
+        self.bytes.len() - object.at - HEADER > GREATEST_SHORT
     }
 
     /// Begins an object with this code point, within the innermost one that is begun.
     pub fn begin(&mut self, code: u16) -> Result<(), NoMemory>
-        requires depth { length self.old.begun < 8 }
-        requires room { building_size self.old + 8 ≤ 33554432 }
+        requires depth { length self.old.begun < greatest_depth }
+        requires room { HasRoomFor 4 self.old }
         ensures ok { OnOk result (self.new ≡ after_begin self.old code) }
         ensures err { OnErr result (self.new ≡ self.old) }
     {
-        let bytes = Octets::new(self.alloc);
-        self.begun.push(OpenObject { code, bytes })?;
+        let at = self.bytes.len();
+        self.bytes.extend_from_slice(&[0; HEADER])?;
+        self.begun.push(BegunObject { at, code });
         Ok(())
     }
 
     /// Appends these bytes to the data of the innermost object.
     pub fn put(&mut self, bytes: &[u8]) -> Result<(), NoMemory>
         requires begun { 0 < length self.old.begun }
-        requires room { building_size self.old + length bytes.now ≤ 33554432 }
+        requires room { HasRoomFor (length bytes.now) self.old }
         ensures ok { OnOk result (self.new ≡ after_put self.old bytes.now) }
         ensures err { OnErr result (self.new ≡ self.old) }
     {
-        put_innermost(&mut self.begun, bytes)
+        self.bytes.extend_from_slice(bytes)?;
+        Ok(())
     }
 
-    /// Ends the innermost object: it is appended whole to the data of the one around it, or to what is written.
+    /// Ends the innermost object: it is whole at the end of the data of the one around it, or of what is written.
     pub fn end(&mut self) -> Result<(), NoMemory>
-        requires { 0 < length self.old.begun }
+        requires begun { 0 < length self.old.begun }
+        requires room { HasRoomToEnd self.old }
         ensures ok { OnOk result (self.new ≡ after_end self.old) }
         ensures err { OnErr result (self.new ≡ self.old) }
     {
-        let object = innermost(self.alloc, &self.begun)?;
-        if self.begun.len() == 1 {
-            self.written.push_all(object.as_slice())?;
-            self.begun.clear();
-            Ok(())
-        } else {
-            end_within(&mut self.begun, object.as_slice())
-        }
+        let object = self.begun[self.begun.len() - 1];
+        end_at(&mut self.bytes, object)?;
+        self.begun.pop();
+        Ok(())
     }
 
     /// What is written.
@@ -118,88 +131,49 @@ impl Builder {
         requires { self.begun ≡ [] }
         ensures { result ≡ self.written }
     {
-        self.written
+        Octets::from_grown(self.bytes)
     }
 }
 
-/// How many bytes these objects have, each with the longest header.
-fn begun_size(begun: &[OpenObject]) -> usize
-    requires { sum_by open_size begun.now ≤ 33554432 }
-    ensures { result ≡ sum_by open_size begun.now }
+/// Writes the header of this object, whose data go to the end of the bytes. One that is too long for four bytes moves
+/// the data.
+fn end_at(bytes: &mut BytesMut, object: BegunObject) -> Result<(), NoMemory>
+    requires begun { object.at + 4 ≤ length bytes.old.items }
+    requires fits { length bytes.old.items ≤ greatest_built }
+    ensures ok { OnOk result (bytes.new.items ≡ take object.at bytes.old.items ++ canonical_object object.code (drop (object.at + 4) bytes.old.items)) }
+    ensures err { OnErr result (bytes.new.items ≡ bytes.old.items) }
 {
-    let mut size = 0;
-    for object in begun {
-        size += object.bytes.len() + LONGEST_HEADER;
+    let size = bytes.len() - object.at - HEADER;
+    if size <= GREATEST_SHORT {
+        write_short(&mut bytes.as_mut_slice()[object.at..], object.code);
+    } else {
+        bytes.extend_from_slice(&[0; EXTENDED])?;
+        write_long(&mut bytes.as_mut_slice()[object.at..], object.code);
     }
-    size
-}
-
-/// Appends these bytes to the data of the last object.
-fn put_innermost(begun: &mut Vec<OpenObject>, bytes: &[u8]) -> Result<(), NoMemory>
-    requires { 0 < length begun.old.items }
-    ensures ok { OnOk result (kept begun.new.items ≡ with_bytes (kept begun.old.items) bytes.now) }
-    ensures err { OnErr result (kept begun.new.items ≡ kept begun.old.items) }
-{
-    let last = begun.len() - 1;
-    let object = &mut begun[last];
-    object.bytes.push_all(bytes)
-}
-
-/// Takes the last object away, and appends these bytes to the data of the one before it.
-fn end_within(begun: &mut Vec<OpenObject>, bytes: &[u8]) -> Result<(), NoMemory>
-    requires { 1 < length begun.old.items }
-    ensures ok { OnOk result (kept begun.new.items ≡ with_bytes (drop 1 (kept begun.old.items)) bytes.now) }
-    ensures err { OnErr result (kept begun.new.items ≡ kept begun.old.items) }
-{
-    let last = begun.len() - 1;
-    let object = &mut begun[last - 1];
-    object.bytes.push_all(bytes)?;
-    begun.truncate(last);
     Ok(())
 }
 
-/// The canonical bytes of the last object.
-fn innermost(alloc: Global, begun: &[OpenObject]) -> Result<Octets, NoMemory>
-    requires some { 0 < length begun.now }
-    requires fits { FitsInnermost (kept begun.now) }
-    ensures { IfOk result (λ bytes. IsInnermost (kept begun.now) bytes) }
+/// Writes a header with a short length into the four bytes in front of the data. The length counts them too.
+fn write_short(object: &mut [u8], code: u16)
+    requires begun { 4 ≤ length object.old }
+    requires fits { length object.old < 2 ^ 15 }
+    ensures { object.new ≡ big_bytes 2 (length object.old) ++ big_bytes 2 code ++ drop 4 object.old }
 {
-    let object = &begun[begun.len() - 1];
-    canonical(alloc, object.code, object.bytes.as_slice())
+    let size = object.len() as u16;
+    BigEndian::write_u16(object, size);
+    BigEndian::write_u16(&mut object[2..], code);
 }
 
-/// The canonical bytes of an object.
-fn canonical(alloc: Global, code: u16, bytes: &[u8]) -> Result<Octets, NoMemory>
-    requires { length bytes.now < 2 ^ 32 }
-    ensures { IfOk result (λ object. object ≡ canonical_object code bytes.now) }
+/// Moves the data, which have four bytes in front and four behind, to the end, and writes a header with an extended
+/// length in front of them. The length counts the data alone.
+fn write_long(object: &mut [u8], code: u16)
+    requires begun { 8 ≤ length object.old }
+    requires fits { length object.old < 2 ^ 32 }
+    ensures { object.new ≡ big_bytes 2 0x8008 ++ big_bytes 2 code ++ big_bytes 4 (length object.old - 8) ++ take (length object.old - 8) (drop 4 object.old) }
 {
-    let mut object = Octets::new(alloc);
-    if bytes.len() <= GREATEST_SHORT {
-        object.push_all(&short_header(code, (bytes.len() + HEADER) as u16))?;
-    } else {
-        object.push_all(&long_header(code, bytes.len() as u32))?;
-    }
-    object.push_all(bytes)?;
-    Ok(object)
-}
-
-/// The header of an object with a short length, which counts the header too.
-fn short_header(code: u16, size: u16) -> [u8; 4]
-    ensures { result ≡ big_bytes 2 size ++ big_bytes 2 code }
-{
-    let mut header = [0; 4];
-    BigEndian::write_u16(&mut header, size);
-    BigEndian::write_u16(&mut header[2..], code);
-    header
-}
-
-/// The header of an object with an extended length of four bytes, which counts the data alone.
-fn long_header(code: u16, size: u32) -> [u8; 8]
-    ensures { result ≡ big_bytes 2 0x8008 ++ big_bytes 2 code ++ big_bytes 4 size }
-{
-    let mut header = [0; 8];
-    BigEndian::write_u16(&mut header, EXTENDED_4);
-    BigEndian::write_u16(&mut header[2..], code);
-    BigEndian::write_u32(&mut header[4..], size);
-    header
+    let end = object.len() - EXTENDED;
+    object.copy_within(HEADER..end, HEADER + EXTENDED);
+    BigEndian::write_u16(object, EXTENDED_4);
+    BigEndian::write_u16(&mut object[2..], code);
+    BigEndian::write_u32(&mut object[HEADER..], (end - HEADER) as u32);
 }

@@ -1,5 +1,5 @@
 ghost use Rattle.std.specs.Prelude.{◌≡◌, ◌+◌, ◌<◌, ◌≤◌, length, IfOk, Result};
-ghost use Rattle.ddm_objects.specs.Objects.{outer_of, first_of, object_at, extent_at, extended_at};
+ghost use Rattle.ddm_objects.specs.Objects.{outer_of, first_object, object_at, extent_at, extended_at};
 ghost use Rattle.ddm_objects.specs.Seen.{seen_extent, seen_found, seen_result};
 
 use crate::fault::{ObjFault, ObjWhy};
@@ -28,7 +28,7 @@ const EXTENDED_6: u16 = 0x800A;
 const EXTENDED_8: u16 = 0x800C;
 
 /// The greatest extended length that is read, in bytes.
-const GREATEST_EXTENDED: u64 = 33_554_432;
+pub(crate) const GREATEST_EXTENDED: u64 = 33_554_432;
 
 /// How many bytes of data an object has, and the bytes from its data on, by its extended length of `count` bytes, with
 /// which these bytes begin.
@@ -94,9 +94,9 @@ pub(crate) fn read_object(at: usize, bytes: &[u8]) -> Result<(Object<'_>, &[u8])
 
 /// The first object of the bytes, and the bytes after it. An object whose data go to the end of the bytes leaves none
 /// after it. An `Err` is the fault of the object, at 0.
-#[tactic(auto, unfolding(crate::specs::Objects::first_of))]
+#[tactic(auto, unfolding(crate::specs::Objects::first_object))]
 pub fn first(body: &[u8]) -> Result<(Object<'_>, &[u8]), ObjFault>
-    ensures found { seen_found result ≡ first_of body.now }
+    ensures found { seen_found result ≡ first_object body.now }
     ensures within { IfOk result (λ found. length found.0.bytes.now + 4 + length found.1.now ≤ length body.now) }
 {
     if body.len() >= HEADER && BigEndian::read_u16(body) == TO_END {

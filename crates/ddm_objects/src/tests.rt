@@ -133,13 +133,59 @@ fn writes(rt: HostRuntime) -> Result<(), Fail> {
     builder.begin(0x1149)?;
     builder.put(&[0x00, 0x08])?;
     assert_eq!(rt; builder.depth(), 2);
-    assert_eq!(rt; builder.room(), 33_554_414);
+    assert_eq!(rt; builder.room(), 33_554_422);
     builder.end()?;
     builder.begin(0x114A)?;
     builder.put(&[0x04])?;
     builder.end()?;
     builder.end()?;
     assert_eq!(rt; builder.finish().as_slice(), SYNTAXRM.as_slice());
+    Ok(())
+}
+
+/// A long object around a short one, and a long one within it: what was in front of them stays, and each length is its
+/// object's own.
+#[test]
+fn writes_long_ones(rt: HostRuntime) -> Result<(), Fail> {
+    let bytes = vec![in rt.alloc(); 0xAA; 32_764]?;
+    let mut builder = Builder::new(rt.alloc());
+    builder.begin(0x1149)?;
+    builder.put(&DATA)?;
+    builder.end()?;
+    builder.begin(0x124C)?;
+    builder.begin(0x114A)?;
+    builder.put(&DATA)?;
+    assert!(rt; !builder.is_long());
+    builder.end()?;
+    builder.begin(0x114B)?;
+    builder.put(&bytes)?;
+    assert!(rt; builder.is_long());
+    builder.end()?;
+    builder.end()?;
+    let written = builder.finish();
+    let (before, rest) = first(written.as_slice())?;
+    assert_eq!(rt; before.bytes, DATA.as_slice());
+    assert!(rt; rest.starts_with(&[0x80, 0x08, 0x12, 0x4C, 0x00, 0x00, 0x80, 0x0A]));
+    let outer = outer(rest)?;
+    assert_eq!(rt; outer.bytes.len(), 6 + 8 + 32_764);
+    let mut scan = members(outer.bytes);
+    assert_eq!(rt; scan.next().ok_or("an object")??.bytes, DATA.as_slice());
+    assert_eq!(rt; scan.next().ok_or("an object")??.bytes, bytes.as_slice());
+    assert!(rt; scan.next().is_none());
+    Ok(())
+}
+
+/// All of the room is had: one object of 33,554,432 bytes.
+#[test]
+fn has_all_its_room(rt: HostRuntime) -> Result<(), Fail> {
+    let bytes = vec![in rt.alloc(); 0xAA; 33_554_424]?;
+    let mut builder = Builder::new(rt.alloc());
+    builder.begin(0x146C)?;
+    builder.put(&bytes)?;
+    assert_eq!(rt; builder.room(), 4);
+    builder.end()?;
+    assert_eq!(rt; builder.room(), 0);
+    assert_eq!(rt; builder.finish().as_slice().len(), 33_554_432);
     Ok(())
 }
 

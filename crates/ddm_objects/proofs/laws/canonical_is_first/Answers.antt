@@ -1,4 +1,4 @@
-use Rattle.ddm_objects.proofs.Spelled.{canonical_first}
+use Rattle.ddm_objects.proofs.Reading.Spelled.{canonical_first}
 use Rattle.ddm_objects.proofs.laws.canonical_is_first.Goals as goal
 
 pub returns : goal.returns

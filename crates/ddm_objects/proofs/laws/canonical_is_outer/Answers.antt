@@ -1,4 +1,4 @@
-use Rattle.ddm_objects.proofs.Spelled.{canonical_outer}
+use Rattle.ddm_objects.proofs.Reading.Spelled.{canonical_outer}
 use Rattle.ddm_objects.proofs.laws.canonical_is_outer.Goals as goal
 
 pub returns : goal.returns

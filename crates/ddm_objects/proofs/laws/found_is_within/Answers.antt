@@ -1,4 +1,4 @@
-use Rattle.ddm_objects.proofs.Within.{found_within}
+use Rattle.ddm_objects.proofs.Reading.Within.{found_within}
 use Rattle.ddm_objects.proofs.laws.found_is_within.Goals as goal
 
 pub returns : goal.returns

@@ -1,6 +1,6 @@
 use Rattle.std.proofs.Common.{sym, ap, ◌∙◌}
 use Rattle.ddm_objects.specs.Members.{Members}
-use Rattle.ddm_objects.proofs.Spelled.{members_again}
+use Rattle.ddm_objects.proofs.Reading.Spelled.{members_again}
 use Rattle.ddm_objects.proofs.laws.members_are_one_list.Goals as goal
 
 pub returns : goal.returns

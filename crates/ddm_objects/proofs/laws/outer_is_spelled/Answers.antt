@@ -1,6 +1,5 @@
-use Rattle.ddm_objects.proofs.Bytes.{bytes_from_all}
-use Rattle.ddm_objects.proofs.Spelled.{outer_takes}
+use Rattle.ddm_objects.proofs.Reading.Spelled.{outer_takes}
 use Rattle.ddm_objects.proofs.laws.outer_is_spelled.Goals as goal
 
 pub returns : goal.returns
-returns c = λ bytes object all e. outer_takes bytes object (bytes_from_all bytes all) e
+returns c = λ bytes object all e. outer_takes bytes object all e

@@ -1,4 +1,4 @@
-use Rattle.ddm_objects.proofs.Spelled.{members_again}
+use Rattle.ddm_objects.proofs.Reading.Spelled.{members_again}
 use Rattle.ddm_objects.proofs.laws.spelled_are_members.Goals as goal
 
 pub returns : goal.returns

@@ -1,4 +1,4 @@
-use Rattle.ddm_objects.proofs.Spelled.{first_again}
+use Rattle.ddm_objects.proofs.Reading.Spelled.{first_again}
 use Rattle.ddm_objects.proofs.laws.spelled_is_first.Goals as goal
 
 pub returns : goal.returns

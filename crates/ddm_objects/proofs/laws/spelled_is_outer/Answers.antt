@@ -1,4 +1,4 @@
-use Rattle.ddm_objects.proofs.Spelled.{outer_again}
+use Rattle.ddm_objects.proofs.Reading.Spelled.{outer_again}
 use Rattle.ddm_objects.proofs.laws.spelled_is_outer.Goals as goal
 
 pub returns : goal.returns

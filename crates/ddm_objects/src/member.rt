@@ -33,6 +33,13 @@ pub fn members(bytes: &[u8]) -> MemberScan<'_>
 }
 
 impl<'a> MemberScan<'a> {
+    /// The bytes that are left: those of the next object, and of what follows it. None after a fault.
+    pub fn left(&self) -> &'a [u8]
+        ensures { result.now ≡ self.now.left }
+    {
+        self.left
+    }
+
     /// The next object, or the fault in its place, with its offset from the scan's beginning. None at the end, and
     /// after a fault.
     pub fn next(&mut self) -> Option<Result<Object<'a>, ObjFault>>
@@ -66,13 +73,13 @@ pub fn find(bytes: &[u8], code: u16) -> Result<Option<Object<'_>>, ObjFault>
     let mut scan = members(bytes);
     let mut found = None;
     while let Some(next) = scan.next() {
-        found = first_of(found, next?, code);
+        found = or_first(found, next?, code);
     }
     Ok(found)
 }
 
 /// The object that was found, or this one if it has the code point that is sought.
-fn first_of<'a>(found: Option<Object<'a>>, object: Object<'a>, code: u16) -> Option<Object<'a>>
+fn or_first<'a>(found: Option<Object<'a>>, object: Object<'a>, code: u16) -> Option<Object<'a>>
     ensures first { option_map seen result ≡ option_or (option_map seen found.entry) (first_with code (seen object.entry ∷ [])) }
     ensures either { IfSome result (λ first. (found.entry ≡ Some first) ⊎ (first ≡ object.entry)) }
 {

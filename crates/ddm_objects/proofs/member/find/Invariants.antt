@@ -1,6 +1,6 @@
 use Rattle.std.proofs.Common.{length}
-use Rattle.ddm_objects.proofs.Finding.{Searches}
-use Rattle.ddm_objects.proofs.scan.find.Given as goal
+use Rattle.ddm_objects.proofs.Reading.Finding.{Searches}
+use Rattle.ddm_objects.proofs.member.find.Given as goal
 
 abbrev pub invariant-loop-next : goal.invariant-loop-next
 invariant-loop-next l = Searches l.bytes l.code l.scan l.found

@@ -1,7 +1,7 @@
 -- Objects that are being written, one within another. No standard speaks of a builder: it is this project's own; what it
--- writes are objects of DDM, volume 3, DDM objects (Objects.antt).
-use Rattle.std.specs.Prelude.{ℕ, ◌+◌, List, [], ◌∷◌, ◌++◌, length, sum_by}
-use Rattle.ddm_objects.specs.Objects.{Member, canonical_object}
+-- writes are objects of DRDA, volume 3 (Objects.antt).
+use Rattle.std.specs.Prelude.{ℕ, ◌+◌, ◌<◌, ◌≤◌, List, [], ◌∷◌, ◌++◌, length, sum_by}
+use Rattle.ddm_objects.specs.Objects.{Member, greatest_extended, greatest_short, canonical_object}
 
 -- what is written whole, and the objects that are begun, each with its data so far, the innermost first
 pub record Building : Type 0 where
@@ -11,9 +11,32 @@ pub record Building : Type 0 where
 abbrev pub nothing_built : Building
 nothing_built = record { written = []; begun = [] }
 
--- how many bytes it is at most, once each begun object has its header
+-- how many bytes can be built, and how many objects may be begun at a time
+abbrev pub greatest_built : ℕ
+greatest_built = greatest_extended
+
+abbrev pub greatest_depth : ℕ
+greatest_depth = 8
+
+-- how many bytes there are, with a header of four for each object that is begun
+abbrev pub begun_size : Member → ℕ
+begun_size object = length object.bytes + 4
+
 abbrev pub building_size : Building → ℕ
-building_size building = length building.written + sum_by (λ object. length object.bytes + 8) building.begun
+building_size building = length building.written + sum_by begun_size building.begun
+
+-- so many bytes more can be built
+abbrev pub HasRoomFor : ℕ → Building → Type 0
+HasRoomFor count building = building_size building + count ≤ greatest_built
+
+-- the data of the innermost object are too many for a short length
+abbrev pub IsLong : List Member → Type 0
+IsLong [] = ⊥
+IsLong (object ∷ outer) = greatest_short < length object.bytes
+
+-- the innermost object can be ended: an extended length takes four bytes more
+abbrev pub HasRoomToEnd : Building → Type 0
+HasRoomToEnd building = IsLong building.begun → HasRoomFor 4 building
 
 -- an object is begun within the innermost one
 abbrev pub after_begin : Building → ℕ → Building

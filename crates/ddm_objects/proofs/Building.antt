@@ -1,0 +1,3 @@
+-- The builder.
+pub mod Fields
+pub mod Headers
