@@ -6,7 +6,7 @@ use Rattle.dss_frame.specs.declared.dss.Side.{Side}
 use Rattle.dss_frame.specs.declared.dss.Dss.{Dss}
 use Rattle.dss_frame.specs.declared.dss.Placed.{Placed}
 use Rattle.dss_frame.specs.declared.fault.Why.{Why}
-use Rattle.dss_frame.specs.declared.fault.FeedFault.TheVariants.{Frame}
+use Rattle.dss_frame.specs.declared.fault.StreamFault.TheVariants.{Frame}
 use Rattle.dss_frame.specs.declared.extent.Extent.{Extent}
 use Rattle.dss_frame.specs.declared.extent.Extent.TheVariants.{Awaits, Ends, Fails}
 use Rattle.dss_frame.specs.declared.step.Position.{Position}

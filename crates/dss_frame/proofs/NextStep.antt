@@ -4,7 +4,7 @@ use Rattle.std.proofs.lemmas.Bool.{cases_lt, lt-ltb, le-ltb, cond-true, cond-fal
 use Rattle.std.proofs.lemmas.List.{length-append}
 use Rattle.dss_frame.specs.declared.dss.Side.{Side}
 use Rattle.dss_frame.specs.declared.fault.Why.{Why}
-use Rattle.dss_frame.specs.declared.fault.FeedFault.TheVariants.{Frame, TooLong, NoMemory}
+use Rattle.dss_frame.specs.declared.fault.StreamFault.TheVariants.{Frame, TooLong}
 use Rattle.dss_frame.specs.declared.extent.Extent.{Extent}
 use Rattle.dss_frame.specs.declared.extent.Extent.TheVariants.{Awaits, Ends, Fails}
 use Rattle.dss_frame.specs.declared.step.Position.{Position}
@@ -87,14 +87,13 @@ is_read side position bytes count e =
       | IsWrong offset why is room within step ↦ absurd (cc)
     ]
 
--- reading takes no memory that can be wanted
-pub step_told : (side : Side) (position : Position) (bytes : List ℕ) → step_of side position bytes ≡ Stops NoMemory → ⊥
-step_told side position bytes e =
+pub waits_awaits : (side : Side) (position : Position) (bytes : List ℕ) → step_of side position bytes ≡ Waits → extent_of side bytes ≡ Awaits
+waits_awaits side position bytes e =
     elim (step_case side position bytes) [
-      | IsWaiting is room step ↦ cc
-      | IsReading n is room six within step ↦ cc
-      | IsLong x is past within step ↦ cc
-      | IsWrong offset why is room within step ↦ cc
+      | IsWaiting is room step ↦ is
+      | IsReading n is room six within step ↦ absurd (cc)
+      | IsLong x is past within step ↦ absurd (cc)
+      | IsWrong offset why is room within step ↦ absurd (cc)
     ]
 
 -- ---- where more bytes follow

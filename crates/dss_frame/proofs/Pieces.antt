@@ -3,8 +3,8 @@ use Rattle.std.proofs.Common.{◌≡◌, ℕ, zero, suc, ◌≤◌, List, [], �
 use Rattle.std.proofs.lemmas.List.{length-append, length-drop, take-append-le, drop-append-le}
 use Rattle.dss_frame.specs.declared.dss.Dss.{Dss}
 use Rattle.dss_frame.specs.declared.dss.Placed.{Placed}
-use Rattle.dss_frame.specs.declared.fault.FeedFault.{FeedFault}
-use Rattle.dss_frame.specs.declared.fault.FeedFault.TheVariants.{Frame}
+use Rattle.dss_frame.specs.declared.fault.StreamFault.{StreamFault}
+use Rattle.dss_frame.specs.declared.fault.StreamFault.TheVariants.{Frame}
 use Rattle.dss_frame.specs.declared.step.Step.{Step}
 use Rattle.dss_frame.specs.declared.step.Step.TheVariants.{Waits, Reads, Stops}
 use Rattle.dss_frame.specs.Segments.{dss_of}
@@ -14,7 +14,7 @@ use Rattle.dss_frame.proofs.NextStep.{IsWaiting, IsReading, IsLong, IsWrong, ste
 
 -- ---- reading on
 
-abbrev pub stopped : View → FeedFault → View
+abbrev pub stopped : View → StreamFault → View
 stopped v fault = record v { «open» = []; fault = Some fault }
 
 -- the DSS that comes next was read
@@ -34,7 +34,7 @@ pub on_reads : (n : ℕ) (v : View) (count : ℕ) → step_of v.side v.position 
 unfolding read_on
 on_reads n v count e = ap (λ (s : Step). after_step v s (read_on n)) e
 
-pub on_stops : (n : ℕ) (v : View) (fault : FeedFault) → step_of v.side v.position v.open ≡ Stops fault → read_on (suc n) v ≡ stopped v fault
+pub on_stops : (n : ℕ) (v : View) (fault : StreamFault) → step_of v.side v.position v.open ≡ Stops fault → read_on (suc n) v ≡ stopped v fault
 unfolding read_on
 on_stops n v fault e = ap (λ (s : Step). after_step v s (read_on n)) e
 
@@ -67,12 +67,12 @@ all_reads v count e =
     enough (length (drop count v.open)) all (read_next v count) (omega arith) (omega (arith, length-drop count v.open))
     ∙ sym (on_reads all v count e) ∙ enough (suc all) all v (omega arith) (omega arith)
 
-pub all_stops : (v : View) (fault : FeedFault) → step_of v.side v.position v.open ≡ Stops fault → stopped v fault ≡ read_all v
+pub all_stops : (v : View) (fault : StreamFault) → step_of v.side v.position v.open ≡ Stops fault → stopped v fault ≡ read_all v
 all_stops v fault e = sym (on_stops (length v.open) v fault e) ∙ enough (suc (length v.open)) (length v.open) v (omega arith) (omega arith)
 
 -- what holds where reading ends, and with each DSS that is read before, holds of what is read
 pub on_ends : (R : View → View → Type 0) → ((v : View) → R v v) → ((v r : View) (count : ℕ) → step_of v.side v.position v.open ≡ Reads count → R (read_next v count) r → R v r)
-    → ((v : View) (fault : FeedFault) → step_of v.side v.position v.open ≡ Stops fault → R v (stopped v fault)) → (n : ℕ) (v : View) → R v (read_on n v)
+    → ((v : View) (fault : StreamFault) → step_of v.side v.position v.open ≡ Stops fault → R v (stopped v fault)) → (n : ℕ) (v : View) → R v (read_on n v)
 on_ends R none reads stops zero v = subst (R v) (sym (on_zero v)) (none v)
 on_ends R none reads stops (suc n) v =
     elim (step_case v.side v.position v.open) [
@@ -85,13 +85,13 @@ on_ends R none reads stops (suc n) v =
 
 -- ---- feeding
 
-pub fed_stopped : (v : View) (p : List ℕ) (fault : FeedFault) → v.fault ≡ Some fault → fed v p ≡ v
+pub fed_stopped : (v : View) (p : List ℕ) (fault : StreamFault) → v.fault ≡ Some fault → fed v p ≡ v
 unfolding fed
-fed_stopped v p fault e = ap (λ (o : Option FeedFault). if is_some o then v else read_all (with_bytes v p)) e
+fed_stopped v p fault e = ap (λ (o : Option StreamFault). if is_some o then v else read_all (with_bytes v p)) e
 
 pub fed_none : (v : View) (p : List ℕ) → v.fault ≡ None → fed v p ≡ read_on (length (v.open ++ p)) (with_bytes v p)
 unfolding fed
-fed_none v p e = ap (λ (o : Option FeedFault). if is_some o then v else read_all (with_bytes v p)) e
+fed_none v p e = ap (λ (o : Option StreamFault). if is_some o then v else read_all (with_bytes v p)) e
 
 -- the DSS that comes next is the same one where more bytes follow
 next_append : (v : View) (q : List ℕ) (count : ℕ) → count ≤ length v.open → read_next (with_bytes v q) count ≡ with_bytes (read_next v count) q
@@ -130,7 +130,7 @@ on_append (suc m) (suc n) v q none a b =
           ∙ sym (on_stops n (with_bytes v q) fault (wrong_append v.side v.position v.open q offset why e room within))
     ]
 
-fed_append_by : (o : Option FeedFault) (v : View) (p q : List ℕ) → v.fault ≡ o → fed (fed v p) q ≡ fed v (p ++ q)
+fed_append_by : (o : Option StreamFault) (v : View) (p q : List ℕ) → v.fault ≡ o → fed (fed v p) q ≡ fed v (p ++ q)
 fed_append_by (Some fault) v p q e = ap (λ (w : View). fed w q) (fed_stopped v p fault e) ∙ fed_stopped v q fault e ∙ sym (fed_stopped v (p ++ q) fault e)
 fed_append_by None v p q e =
     let joined = append_assoc v.open p q in
@@ -160,7 +160,7 @@ unfolding read_on
 on_behind zero front v = refl
 on_behind (suc n) front v = step_behind n (step_of v.side v.position v.open) front v (on_behind n front)
 
-fed_behind_by : (o : Option FeedFault) (front : List Placed) (v : View) (p : List ℕ)
+fed_behind_by : (o : Option StreamFault) (front : List Placed) (v : View) (p : List ℕ)
     → (if is_some o then behind front v else read_all (with_bytes (behind front v) p)) ≡ behind front (if is_some o then v else read_all (with_bytes v p))
 fed_behind_by (Some fault) front v p = refl
 fed_behind_by None front v p = on_behind (length (v.open ++ p)) front (with_bytes v p)

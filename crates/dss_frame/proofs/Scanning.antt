@@ -1,11 +1,12 @@
 -- The scan over all bytes of the DSSs that have begun, one DSS after another.
 use Rattle.std.proofs.Common.{◌≡◌, ℕ, ◌+◌, ◌-◌, ◌≤◌, Bool, true, false, cond, List, [], ◌∷◌, ◌++◌, length, take, drop, Option, Some, None, refl, sym, ap, subst, ◌∙◌, arith}
+use Rattle.std.specs.Option.{option_map}
 use Rattle.std.proofs.lemmas.List.{length-drop, length-take, drop-drop, drop_all, take_rest}
 use Rattle.dss_frame.specs.declared.dss.Side.{Side}
 use Rattle.dss_frame.specs.declared.dss.Dss.{Dss}
 use Rattle.dss_frame.specs.declared.dss.Placed.{Placed}
-use Rattle.dss_frame.specs.declared.fault.FeedFault.{FeedFault}
-use Rattle.dss_frame.specs.declared.fault.FeedFault.TheVariants.{Frame, TooLong, NoMemory}
+use Rattle.dss_frame.specs.declared.fault.StreamFault.{StreamFault}
+use Rattle.dss_frame.specs.declared.fault.StreamFault.TheVariants.{Frame, TooLong}
 use Rattle.dss_frame.specs.declared.extent.Extent.TheVariants.{Ends}
 use Rattle.dss_frame.specs.declared.step.Position.{Position}
 use Rattle.dss_frame.specs.declared.step.Step.{Step}
@@ -13,12 +14,13 @@ use Rattle.dss_frame.specs.declared.step.Step.TheVariants.{Waits, Reads, Stops}
 use Rattle.dss_frame.specs.declared.scan.Scan.{Scan}
 use Rattle.dss_frame.specs.Segments.{extent_of, dss_of}
 use Rattle.dss_frame.specs.Kept.{IsWithin}
+use Rattle.dss_frame.specs.Fault.{answer_of}
 use Rattle.dss_frame.specs.Reading.{View, fed, Stopped, step_of, position_after, read_on, read_all}
 use Rattle.dss_frame.specs.Scan.{at_position, Scanned}
 use Rattle.dss_frame.proofs.Extending.{all_push}
 use Rattle.dss_frame.proofs.Judging.{whole_dss}
 use Rattle.dss_frame.proofs.Whole.{ends_take, dss_size}
-use Rattle.dss_frame.proofs.NextStep.{IsRead, is_read, step_told}
+use Rattle.dss_frame.proofs.NextStep.{IsRead, is_read}
 use Rattle.dss_frame.proofs.Pieces.{on_waits, all_reads, all_stops, on_ends, fed_stopped, fed_none}
 
 -- ---- reading goes on from there
@@ -34,13 +36,13 @@ step_at side position bytes begins step e = sym (e ∙ ap (step_of side position
 pub read_at : (side : Side) (position : Position) (bytes : List ℕ) (begins count : ℕ) → Reads count ≡ step_of side position (take (length bytes - begins) (drop begins bytes)) → IsRead side position (drop begins bytes) count
 read_at side position bytes begins count e = is_read side position (drop begins bytes) count (step_at side position bytes begins (Reads count) e)
 
-pub scanned_waits : (side : Side) (limit : ℕ) (bytes : List ℕ) (first here : Position) (old now : List Placed) (begins : ℕ) → ReadsOn side limit bytes first here old now begins → step_of side here (drop begins bytes) ≡ Waits → Scanned side limit first bytes old now (record { begins = begins; position = here; fault = None })
-scanned_waits side limit bytes first here old now begins h e = record {
+pub scanned_waits : (side : Side) (limit : ℕ) (bytes : List ℕ) (first here : Position) (old now : List Placed) (begins walked : ℕ) → ReadsOn side limit bytes first here old now begins → step_of side here (drop begins bytes) ≡ Waits → Scanned side limit first bytes old now (record { begins = begins; position = here; walked = walked; fault = None })
+scanned_waits side limit bytes first here old now begins walked h e = record {
   within = h.within;
   reads = sym (on_waits (length (drop begins bytes)) (at_position side limit here now (drop begins bytes)) e) ∙ h.same;
 }
 
-pub scanned_stops : (side : Side) (limit : ℕ) (bytes : List ℕ) (first here : Position) (old now : List Placed) (begins : ℕ) (fault : FeedFault) → ReadsOn side limit bytes first here old now begins → step_of side here (drop begins bytes) ≡ Stops fault → Scanned side limit first bytes old now (record { begins = length bytes; position = here; fault = Some fault })
+pub scanned_stops : (side : Side) (limit : ℕ) (bytes : List ℕ) (first here : Position) (old now : List Placed) (begins : ℕ) (fault : StreamFault) → ReadsOn side limit bytes first here old now begins → step_of side here (drop begins bytes) ≡ Stops fault → Scanned side limit first bytes old now (record { begins = length bytes; position = here; walked = 0; fault = Some fault })
 scanned_stops side limit bytes first here old now begins fault h e = record {
   within = omega arith;
   reads =
@@ -99,10 +101,12 @@ scanned_within side limit position bytes old new s scanned h =
 -- ---- a piece
 
 -- a fault is answered again
-pub stopped_again : (fault : FeedFault) (v : View) (piece : List ℕ) → v.fault ≡ Some fault → Stopped fault v v piece
-stopped_again NoMemory v piece is = refl
-stopped_again (Frame at why corr) v piece is = (sym (fed_stopped v piece (Frame at why corr) is), is)
-stopped_again (TooLong at corr) v piece is = (sym (fed_stopped v piece (TooLong at corr) is), is)
+pub stopped_by : (fault : StreamFault) (old new : View) (piece : List ℕ) → new ≡ fed old piece → new.fault ≡ Some fault → Stopped (answer_of fault) old new piece
+stopped_by (Frame at why corr) old new piece is kept = (is, ap (option_map answer_of) kept)
+stopped_by (TooLong at corr) old new piece is kept = (is, ap (option_map answer_of) kept)
+
+pub stopped_again : (fault : StreamFault) (v : View) (piece : List ℕ) → v.fault ≡ Some fault → Stopped (answer_of fault) v v piece
+stopped_again fault v piece is = stopped_by fault v v piece (sym (fed_stopped v piece fault is)) is
 
 -- what a piece leaves, by the scan of all bytes that have begun, where the reader keeps the bytes that it left
 pub fed_left : (v : View) (piece bytes kept : List ℕ) (new : List Placed) (s : Scan) → v.fault ≡ None → bytes ≡ v.open ++ piece → Scanned v.side v.limit v.position bytes v.whole new s → kept ≡ drop s.begins bytes
@@ -111,33 +115,5 @@ fed_left v piece bytes kept new s none joined h left =
     ap (λ (xs : List ℕ). record { side = v.side; limit = v.limit; whole = new; position = s.position; «open» = xs; fault = s.fault }) left
     ∙ h.reads
     ∙ ap (λ (xs : List ℕ). read_all (at_position v.side v.limit v.position v.whole xs)) joined
-    ∙ ap (λ (o : Option FeedFault). read_all (record { side = v.side; limit = v.limit; whole = v.whole; position = v.position; «open» = v.open ++ piece; fault = o })) (sym none)
+    ∙ ap (λ (o : Option StreamFault). read_all (record { side = v.side; limit = v.limit; whole = v.whole; position = v.position; «open» = v.open ++ piece; fault = o })) (sym none)
     ∙ sym (fed_none v piece none)
-
--- ---- reading takes no memory that can be wanted
-
-abbrev IsTold : Option FeedFault → Type 0
-IsTold fault = fault ≡ Some NoMemory → ⊥
-
-fault_is : (fault : FeedFault) → Some fault ≡ Some NoMemory → Stops fault ≡ Stops NoMemory
-fault_is fault e = cc
-
-on_told : (count : ℕ) (v : View) → IsTold v.fault → IsTold (read_on count v).fault
-on_told =
-    on_ends (λ v r. IsTold v.fault → IsTold r.fault) (λ v told. told) (λ v r n step goes told. goes told)
-    (λ v fault step told is. step_told v.side v.position v.open (step ∙ fault_is fault is))
-
-none_told : IsTold None
-none_told e = cc
-
-stopped_by : (fault : FeedFault) (old new : View) (piece : List ℕ) → IsTold (Some fault) → new ≡ fed old piece → new.fault ≡ Some fault → Stopped fault old new piece
-stopped_by NoMemory old new piece told is fault = absurd (told refl)
-stopped_by (Frame at why corr) old new piece told is fault = (is, fault)
-stopped_by (TooLong at corr) old new piece told is fault = (is, fault)
-
--- a fault that the scan came to
-pub stopped_there : (side : Side) (limit : ℕ) (position : Position) (bytes : List ℕ) (old_whole whole : List Placed) (s : Scan) (fault : FeedFault) (old new : View) (piece : List ℕ)
-    → Scanned side limit position bytes old_whole whole s → s.fault ≡ Some fault → new ≡ fed old piece → new.fault ≡ Some fault → Stopped fault old new piece
-stopped_there side limit position bytes old_whole whole s fault old new piece scanned is same there =
-    let told = on_told (length bytes) (at_position side limit position old_whole bytes) none_told in
-    stopped_by fault old new piece (λ e. told (sym (ap (λ (v : View). v.fault) scanned.reads) ∙ is ∙ e)) same there

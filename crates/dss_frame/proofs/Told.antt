@@ -4,7 +4,7 @@ use Rattle.std.proofs.lemmas.List.{length-append, length-take, take-append-drop}
 use Rattle.dss_frame.specs.declared.dss.Side.{Side}
 use Rattle.dss_frame.specs.declared.dss.Dss.{Dss}
 use Rattle.dss_frame.specs.declared.fault.Why.{Why}
-use Rattle.dss_frame.specs.declared.fault.FeedFault.TheVariants.{Frame, TooLong}
+use Rattle.dss_frame.specs.declared.fault.StreamFault.TheVariants.{Frame, TooLong}
 use Rattle.dss_frame.specs.declared.extent.Extent.{Extent}
 use Rattle.dss_frame.specs.declared.extent.Extent.TheVariants.{Ends, Fails}
 use Rattle.dss_frame.specs.Segments.{number_at, extent_of}

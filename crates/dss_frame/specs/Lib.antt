@@ -1,8 +1,11 @@
 pub mod Dss
 pub mod Segments
 pub mod Spelling
+pub mod Fault
 pub mod Reading
 pub mod Told
+pub mod Walk
 pub mod Scan
+pub mod Held
 pub mod Kept
 pub mod Calls

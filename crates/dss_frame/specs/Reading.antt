@@ -4,8 +4,12 @@ use Rattle.std.specs.Prelude.{ℕ, zero, suc, ◌≡◌, ◌+◌, ◌-◌, ◌^�
 use Rattle.dss_frame.specs.declared.dss.Side.{Side}
 use Rattle.dss_frame.specs.declared.dss.Dss.{Dss}
 use Rattle.dss_frame.specs.declared.dss.Placed.{Placed}
+use Rattle.dss_frame.specs.declared.fault.StreamFault.{StreamFault}
+use Rattle.dss_frame.specs.declared.fault.StreamFault.TheVariants.{Frame, TooLong}
 use Rattle.dss_frame.specs.declared.fault.FeedFault.{FeedFault}
-use Rattle.dss_frame.specs.declared.fault.FeedFault.TheVariants.{Frame, TooLong, NoMemory}
+use Rattle.dss_frame.specs.declared.fault.FeedFault.TheVariants.{NoMemory}
+use Rattle.dss_frame.specs.Fault.{answer_of}
+use Rattle.std.specs.Option.{option_map}
 use Rattle.dss_frame.specs.declared.extent.Extent.{Extent}
 use Rattle.dss_frame.specs.declared.extent.Extent.TheVariants.{Awaits, Ends, Fails}
 use Rattle.dss_frame.specs.declared.step.Position.{Position}
@@ -22,7 +26,7 @@ further_on at bytes = min (at + bytes) (2 ^ 64 - 1)
 abbrev pub number_for : Position → List ℕ → ℕ → ℕ
 number_for position bytes offset = if nat_lt offset 6 then position.before else number_at 4 bytes
 
-abbrev pub too_long : Position → List ℕ → FeedFault
+abbrev pub too_long : Position → List ℕ → StreamFault
 too_long position bytes = TooLong (further_on position.at position.room) (number_for position bytes position.room)
 
 -- What comes next where a DSS begins with these bytes: more are awaited, or it is whole, or a fault ends the reading. The
@@ -50,7 +54,7 @@ pub record View : Type 0 where
   -- its bytes so far; none after a fault
   pub «open» : List ℕ
   -- the fault that ended the reading
-  pub fault : Option FeedFault
+  pub fault : Option StreamFault
 
 -- the place where a stream begins, and with it a chain
 abbrev pub first_position : ℕ → Position
@@ -108,4 +112,4 @@ behind front v = record v { whole = front ++ v.whole }
 -- leaves
 abbrev pub Stopped : FeedFault → View → View → List ℕ → Type 0
 Stopped NoMemory old new piece = new ≡ old
-Stopped fault old new piece = (new ≡ fed old piece) × (new.fault ≡ Some fault)
+Stopped fault old new piece = (new ≡ fed old piece) × (option_map answer_of new.fault ≡ Some fault)

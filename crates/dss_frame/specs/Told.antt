@@ -5,7 +5,7 @@ use Rattle.std.specs.List.{flat_map}
 use Rattle.dss_frame.specs.declared.dss.Dss.{Dss}
 use Rattle.dss_frame.specs.declared.dss.Placed.{Placed}
 use Rattle.dss_frame.specs.declared.fault.Why.{Why}
-use Rattle.dss_frame.specs.declared.fault.FeedFault.TheVariants.{Frame, TooLong}
+use Rattle.dss_frame.specs.declared.fault.StreamFault.TheVariants.{Frame, TooLong}
 use Rattle.dss_frame.specs.Segments.{number_at}
 use Rattle.dss_frame.specs.Reading.{View, start, fed}
 use Rattle.dss_frame.specs.Spelling.{Spelled, Begins, IsBad, IsBeyond}

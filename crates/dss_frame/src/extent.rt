@@ -1,5 +1,6 @@
 ghost use Rattle.std.specs.Prelude.{◌≡◌, ◌<◌, ◌≤◌, length, IfOk};
 ghost use Rattle.dss_frame.specs.Segments.{segment_size as size_of, continues, has_bit as bit_of, kind_of, is_format_of, header_fault as first_fault, field_offset, segments_extent as extent_from, extent_of, dss_of as dss_in, body_of};
+ghost use Rattle.dss_frame.specs.Walk.{walked_to, IsWalked};
 
 use crate::dss::{Dss, Kind, Side};
 use crate::fault::Why;
@@ -40,6 +41,14 @@ pub(crate) enum Extent {
     Ends { len: usize },
     /// The field at this offset is none of a DSS.
     Fails { offset: usize, why: Why },
+}
+
+/// What is known of a DSS, and how far its segments were walked: up to the first that isn't whole, where more bytes are
+/// awaited.
+#[derive(Clone, Copy, Debug)]
+pub(crate) struct Walk {
+    pub(crate) extent: Extent,
+    pub(crate) walked: usize,
 }
 
 /// How many bytes the segment has that these bytes begin with.
@@ -119,44 +128,59 @@ fn offset_of(why: Why) -> usize
     }
 }
 
-/// What is known of the DSS that begins with these bytes.
+/// What is known of the DSS that begins with these bytes, the first of which were walked before.
 #[tactic(auto, unfolding(crate::specs::Segments::extent_of))]
-pub(crate) fn judge(side: Side, bytes: &[u8]) -> Extent
-    ensures { result ≡ extent_of side bytes.now }
+pub(crate) fn judge(side: Side, bytes: &[u8], walked: usize) -> Walk
+    requires { IsWalked walked bytes.now }
+    ensures extent { result.extent ≡ extent_of side bytes.now }
+    ensures walked { result.extent ≡ Extent.Awaits → result.walked ≡ walked_to bytes.now }
 {
     match header_fault(side, bytes) {
-        Some(why) => Extent::Fails {
-            offset: offset_of(why),
-            why,
+        Some(why) => Walk {
+            extent: Extent::Fails {
+                offset: offset_of(why),
+                why,
+            },
+            walked,
         },
-        None => segments_extent(bytes),
+        None => walk_on(bytes, walked),
     }
 }
 
-/// What the segments come to that these bytes begin with.
-fn segments_extent(bytes: &[u8]) -> Extent
-    ensures { result ≡ extent_from (length bytes.now) 0 bytes.now }
+/// What the segments come to that these bytes begin with, the first of which were walked before.
+fn walk_on(bytes: &[u8], walked: usize) -> Walk
+    requires { IsWalked walked bytes.now }
+    ensures extent { result.extent ≡ extent_from (length bytes.now) 0 bytes.now }
+    ensures walked { result.walked ≡ walked_to bytes.now }
 {
-    let mut offset = 0;
+    let mut walked = walked;
     loop {
-        let rest = &bytes[offset..];
+        let rest = &bytes[walked..];
         if rest.len() < FURTHER_HEADER {
-            return Extent::Awaits;
+            return Walk {
+                extent: Extent::Awaits,
+                walked,
+            };
         }
         let size = segment_size(rest);
         if size < LEAST_FURTHER {
-            return Extent::Fails {
-                offset,
+            let extent = Extent::Fails {
+                offset: walked,
                 why: Why::Continue,
             };
+            return Walk { extent, walked };
         }
         if rest.len() < size {
-            return Extent::Awaits;
+            return Walk {
+                extent: Extent::Awaits,
+                walked,
+            };
         }
-        offset += size;
         if !continues(rest) {
-            return Extent::Ends { len: offset };
+            let extent = Extent::Ends { len: walked + size };
+            return Walk { extent, walked };
         }
+        walked += size;
     }
 }
 

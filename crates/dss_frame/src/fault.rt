@@ -1,4 +1,5 @@
 ghost use Rattle.std.specs.Prelude.{◌≡◌};
+ghost use Rattle.dss_frame.specs.Fault.{answer_of, place_of, shown_by};
 ghost use Rattle.dss_frame.specs.declared.fault.FeedFault.TheVariants.{NoMemory as OutOfMemory};
 
 use link_ends::NoMemory;
@@ -18,6 +19,39 @@ pub enum Why {
     Continue,
 }
 
+/// What ends the reading of a stream.
+#[derive(Clone, Copy, Debug, PartialEq, Eq)]
+pub enum StreamFault {
+    /// The bytes from this place on are no DSS, however they go on.
+    Frame { at: u64, why: Why, corr: u16 },
+    /// A chain has more bytes than the limit, of which the one at this place is the first beyond.
+    TooLong { at: u64, corr: u16 },
+}
+
+impl StreamFault {
+    /// The place that it tells.
+    pub(crate) fn at(self) -> u64
+        ensures { result ≡ place_of self }
+    {
+        match self {
+            StreamFault::Frame { at, .. } | StreamFault::TooLong { at, .. } => at,
+        }
+    }
+
+    /// How many bytes from that place on show it.
+    pub(crate) fn shown_by(self) -> u64
+        ensures { result ≡ shown_by self }
+    {
+        match self {
+            StreamFault::Frame {
+                why: Why::Short | Why::Continue,
+                ..
+            } => 2,
+            _ => 1,
+        }
+    }
+}
+
 /// Why bytes could not be read.
 #[derive(Clone, Copy, Debug, PartialEq, Eq, Error)]
 pub enum FeedFault {
@@ -30,6 +64,17 @@ pub enum FeedFault {
     /// Memory ran out. The reader is as it was before.
     #[error("memory ran out")]
     NoMemory,
+}
+
+impl From<StreamFault> for FeedFault {
+    ghost from_gives = { λ fault e. e ≡ answer_of fault };
+
+    fn from(fault: StreamFault) -> FeedFault {
+        match fault {
+            StreamFault::Frame { at, why, corr } => FeedFault::Frame { at, why, corr },
+            StreamFault::TooLong { at, corr } => FeedFault::TooLong { at, corr },
+        }
+    }
 }
 
 impl From<NoMemory> for FeedFault {

@@ -14,7 +14,7 @@ mod stream_laws;
 mod writer;
 
 pub use dss::{Dss, Kind, Placed, Side};
-pub use fault::{FeedFault, Why};
+pub use fault::{FeedFault, StreamFault, Why};
 pub use laws::{calls_read_as_one, pieces_read_as_one, what_was_read_stays};
 pub use reader::Reader;
 pub use spelling_laws::{

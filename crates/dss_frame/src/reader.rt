@@ -1,9 +1,11 @@
 ghost use Rattle.std.specs.Prelude.{◌≡◌, ◌≤◌, None, drop, length, slice_get, IfErr, IfSome, OnOk};
+ghost use Rattle.dss_frame.specs.Fault.{answer_of};
 ghost use Rattle.dss_frame.specs.Reading.{start, fed, Stopped};
+ghost use Rattle.dss_frame.specs.Held.{held_of};
 
 use crate::dss::{Placed, Side};
-use crate::fault::FeedFault;
-use crate::scan::{keep_from, read_all};
+use crate::fault::{FeedFault, StreamFault};
+use crate::scan::{Scanner, keep_from};
 use crate::step::Position;
 use std::alloc::Global;
 use std::collections::VecDeque;
@@ -19,7 +21,9 @@ pub struct Reader {
     whole: VecDeque<Placed>,
     position: Position,
     begun: Vec<u8>,
-    fault: Option<FeedFault>,
+    /// How far the segments of the DSS were walked that has begun.
+    walked: usize,
+    fault: Option<StreamFault>,
 }
 
 impl Model for Reader {
@@ -27,11 +31,13 @@ impl Model for Reader {
 
     ghost Value = { View };
 
+    ghost use Rattle.std.specs.Prelude.{◌≡◌};
     ghost use Rattle.dss_frame.specs.Kept.{IsWithin};
+    ghost use Rattle.dss_frame.specs.Walk.{walked_to};
 
     ghost view = { λ r. record { side = r.side; limit = r.limit; whole = r.whole.items; position = r.position; «open» = r.begun.items; fault = r.fault } };
 
-    ghost invariant = { λ r. IsWithin r.limit r.whole.items r.position };
+    ghost invariant = { λ r. IsWithin r.limit r.whole.items r.position × (r.walked ≡ walked_to r.begun.items) };
 }
 
 impl Reader {
@@ -47,6 +53,7 @@ impl Reader {
             whole: VecDeque::new(alloc),
             position: Position::first(limit),
             begun: Vec::new(alloc),
+            walked: 0,
             fault: None,
         }
     }
@@ -60,32 +67,32 @@ impl Reader {
         ensures ok { OnOk result (self.new ≡ fed self.old piece.now) }
         ensures no_fault { OnOk result (self.new.fault ≡ None) }
         ensures err { IfErr result (λ e. Stopped e self.old self.new piece.now) }
+        ensures again { IfSome self.old.fault (λ fault. result ≡ Err (answer_of fault)) }
         ensures limit { self.new.limit ≡ self.old.limit }
     {
         if let Some(fault) = self.fault {
-            return Err(fault);
+            return Err(FeedFault::from(fault));
         }
         let begun = self.begun.len();
         let whole = self.whole.len();
         self.begun.extend_from_slice(piece)?;
-        let bytes = self.begun.as_slice();
-        let Ok(scan) = read_all(
-            self.alloc,
-            self.side,
-            self.limit,
-            self.position,
-            bytes,
-            &mut self.whole,
-        ) else {
+        let scanner = Scanner {
+            side: self.side,
+            limit: self.limit,
+            position: self.position,
+            walked: self.walked,
+        };
+        let Ok(scan) = scanner.scan(self.alloc, self.begun.as_slice(), &mut self.whole) else {
             self.begun.truncate(begun);
             self.whole.truncate(whole);
             return Err(FeedFault::NoMemory);
         };
         keep_from(&mut self.begun, scan.begins);
         self.position = scan.position;
+        self.walked = scan.walked;
         self.fault = scan.fault;
         if let Some(fault) = scan.fault {
-            return Err(fault);
+            return Err(FeedFault::from(fault));
         }
         Ok(())
     }
@@ -97,5 +104,35 @@ impl Reader {
         ensures within { IfSome result (λ placed. length placed.dss.body ≤ self.old.limit) }
     {
         self.whole.pop_front()
+    }
+
+    /// The fault that ended the reading, if one did.
+    pub fn fault(&self) -> Option<StreamFault>
+        ensures { result ≡ self.now.fault }
+    {
+        self.fault
+    }
+
+    /// How many bytes are held: those of the whole DSSs that were not taken yet, as they are spelled, and those read behind
+    /// the last whole one, up to the byte that shows the fault if there is one. It is told by places, so it is exact as
+    /// long as they don't stand still.
+    pub fn held(&self) -> usize
+        ensures { result ≡ held_of self.now }
+    {
+        let first = match self.whole.front() {
+            Some(placed) => placed.at,
+            None => self.position.at,
+        };
+        let begun = match self.fault {
+            Some(fault) => fault
+                .at()
+                .saturating_sub(self.position.at)
+                .saturating_add(fault.shown_by()),
+            None => self.begun.len() as u64,
+        };
+        self.position
+            .at
+            .saturating_sub(first)
+            .saturating_add(begun) as usize
     }
 }

@@ -1,63 +1,83 @@
 ghost use Rattle.std.specs.Prelude.{◌≡◌, ◌≤◌, length, drop, IfOk, OnErr};
 ghost use Rattle.dss_frame.specs.Scan.{Scanned, Extends};
+ghost use Rattle.dss_frame.specs.Walk.{walked_to, IsWalked};
 
 use crate::dss::{Placed, Side};
 use crate::extent::dss_of;
-use crate::fault::FeedFault;
+use crate::fault::StreamFault;
 use crate::step::{Position, Step};
 use link_ends::NoMemory;
 use std::alloc::Global;
 use std::collections::VecDeque;
 
-/// What a scan comes to: how many bytes were read, where the DSS begins that isn't whole, and the fault if there is one.
+/// Whose DSSs are read, from where on, and how far the first one was walked before.
+#[derive(Clone, Copy, Debug)]
+pub(crate) struct Scanner {
+    pub(crate) side: Side,
+    /// How many bytes a chain may have.
+    pub(crate) limit: u64,
+    pub(crate) position: Position,
+    pub(crate) walked: usize,
+}
+
+/// What a scan comes to: how many bytes were read, where the DSS begins that isn't whole, how far that one was walked, and
+/// the fault if there is one.
 #[derive(Clone, Copy, Debug)]
 pub(crate) struct Scan {
     pub(crate) begins: usize,
     pub(crate) position: Position,
-    pub(crate) fault: Option<FeedFault>,
+    pub(crate) walked: usize,
+    pub(crate) fault: Option<StreamFault>,
 }
 
-/// Reads the bytes from a position on, where a DSS begins, and puts each whole DSS behind `whole`. After a fault no byte
-/// is left. Where memory runs out some of the DSSs may stand there.
-pub(crate) fn read_all(
-    alloc: Global,
-    side: Side,
-    limit: u64,
-    position: Position,
-    bytes: &[u8],
-    whole: &mut VecDeque<Placed>,
-) -> Result<Scan, NoMemory>
-    ensures ok { IfOk result (Scanned side limit position bytes.now whole.old.items whole.new.items) }
-    ensures err { OnErr result (Extends whole.old.items whole.new.items) }
-{
-    let mut begins = 0;
-    let mut position = position;
-    loop {
-        let rest = &bytes[begins..];
-        match position.next(side, rest) {
-            Step::Waits => {
-                return Ok(Scan {
-                    begins,
-                    position,
-                    fault: None,
-                });
-            }
-            Step::Stops { fault } => {
-                return Ok(Scan {
-                    begins: bytes.len(),
-                    position,
-                    fault: Some(fault),
-                });
-            }
-            Step::Reads { len } => {
-                let dss = dss_of(alloc, side, &rest[..len])?;
-                let after = position.after(limit, &dss, len);
-                whole.push_back(Placed {
-                    at: position.at,
-                    dss,
-                })?;
-                begins += len;
-                position = after;
+impl Scanner {
+    /// Reads the bytes, with which a DSS begins, and puts each whole DSS behind `whole`. After a fault no byte is left.
+    /// Where memory runs out some of the DSSs may stand there.
+    pub(crate) fn scan(
+        self,
+        alloc: Global,
+        bytes: &[u8],
+        whole: &mut VecDeque<Placed>,
+    ) -> Result<Scan, NoMemory>
+        requires { IsWalked self.walked bytes.now }
+        ensures ok { IfOk result (Scanned self.side self.limit self.position bytes.now whole.old.items whole.new.items) }
+        ensures walked { IfOk result (λ scan. scan.walked ≡ walked_to (drop scan.begins bytes.now)) }
+        ensures err { OnErr result (Extends whole.old.items whole.new.items) }
+    {
+        let mut begins = 0;
+        let mut position = self.position;
+        let mut walked = self.walked;
+        loop {
+            let rest = &bytes[begins..];
+            let judged = position.next(self.side, rest, walked);
+            match judged.step {
+                Step::Waits => {
+                    return Ok(Scan {
+                        begins,
+                        position,
+                        walked: judged.walked,
+                        fault: None,
+                    });
+                }
+                Step::Stops { fault } => {
+                    return Ok(Scan {
+                        begins: bytes.len(),
+                        position,
+                        walked: 0,
+                        fault: Some(fault),
+                    });
+                }
+                Step::Reads { len } => {
+                    let dss = dss_of(alloc, self.side, &rest[..len])?;
+                    let after = position.after(self.limit, &dss, len);
+                    whole.push_back(Placed {
+                        at: position.at,
+                        dss,
+                    })?;
+                    begins += len;
+                    position = after;
+                    walked = 0;
+                }
             }
         }
     }

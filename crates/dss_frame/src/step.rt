@@ -1,9 +1,10 @@
 ghost use Rattle.std.specs.Prelude.{◌≡◌, ◌≤◌, length};
 ghost use Rattle.dss_frame.specs.Reading.{further_on as place_on, number_for as number_of, too_long, step_of, first_position, position_after};
+ghost use Rattle.dss_frame.specs.Walk.{walked_to, IsWalked};
 
 use crate::dss::{Dss, Side};
 use crate::extent::{Extent, judge};
-use crate::fault::FeedFault;
+use crate::fault::StreamFault;
 use byteorder::{BigEndian, ByteOrder};
 
 /// How many bytes of a DSS have come where its correlation number has.
@@ -28,7 +29,14 @@ pub(crate) enum Step {
     /// It is whole, with so many bytes.
     Reads { len: usize },
     /// A fault ends the reading.
-    Stops { fault: FeedFault },
+    Stops { fault: StreamFault },
+}
+
+/// What comes next, and how far the segments of the DSS were walked where more bytes of it are awaited.
+#[derive(Clone, Copy, Debug)]
+pub(crate) struct Judged {
+    pub(crate) step: Step,
+    pub(crate) walked: usize,
 }
 
 impl Position {
@@ -84,18 +92,21 @@ impl Position {
         ensures { result ≡ Step.Stops (too_long self bytes.now) }
     {
         Step::Stops {
-            fault: FeedFault::TooLong {
+            fault: StreamFault::TooLong {
                 at: self.place(self.room),
                 corr: self.number_for(bytes, self.room),
             },
         }
     }
 
-    /// What comes next where a DSS begins here, with these bytes.
-    pub(crate) fn next(self, side: Side, bytes: &[u8]) -> Step
-        ensures { result ≡ step_of side self bytes.now }
+    /// What comes next where a DSS begins here, with these bytes, the first of which were walked before.
+    pub(crate) fn next(self, side: Side, bytes: &[u8], walked: usize) -> Judged
+        requires { IsWalked walked bytes.now }
+        ensures step { result.step ≡ step_of side self bytes.now }
+        ensures walked { result.step ≡ Step.Waits → result.walked ≡ walked_to bytes.now }
     {
-        match judge(side, bytes) {
+        let walk = judge(side, bytes, walked);
+        let step = match walk.extent {
             Extent::Awaits => {
                 if bytes.len() as u64 > self.room {
                     self.stop_beyond(bytes)
@@ -113,7 +124,7 @@ impl Position {
             Extent::Fails { offset, why } => {
                 if (offset as u64) < self.room {
                     Step::Stops {
-                        fault: FeedFault::Frame {
+                        fault: StreamFault::Frame {
                             at: self.place(offset as u64),
                             why,
                             corr: self.number_for(bytes, offset as u64),
@@ -123,6 +134,10 @@ impl Position {
                     self.stop_beyond(bytes)
                 }
             }
+        };
+        Judged {
+            step,
+            walked: walk.walked,
         }
     }
 }

@@ -6,7 +6,7 @@ ghost use Rattle.std.specs.List.{All, AllByRecursion, flat_map};
 ghost use Rattle.dss_frame.specs.declared.dss.Side.{Side as OfSide};
 ghost use Rattle.dss_frame.specs.declared.dss.Dss.{Dss as OneDss};
 ghost use Rattle.dss_frame.specs.declared.fault.Why.{Why as Reason};
-ghost use Rattle.dss_frame.specs.declared.fault.FeedFault.TheVariants.{Frame, TooLong};
+ghost use Rattle.dss_frame.specs.declared.fault.StreamFault.TheVariants.{Frame, TooLong};
 ghost use Rattle.dss_frame.specs.Dss.{canonical};
 ghost use Rattle.dss_frame.specs.Spelling.{IsDssOf, Spelled, Begins, IsStream, IsBad, IsBeyond, chain_after};
 ghost use Rattle.dss_frame.specs.Reading.{start};

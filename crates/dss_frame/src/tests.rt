@@ -206,6 +206,7 @@ fn read(rt: &impl Abort, alloc: Global, row: &Reading, size: usize) -> Result<()
     }
     assert_eq!(rt; fault, row.fault);
     assert_eq!(rt; reader.feed(&[]).err(), row.fault);
+    assert_eq!(rt; reader.fault().map(FeedFault::from), row.fault);
     for (at, corr, body) in row.whole {
         let placed = reader.take().ok_or("a whole DSS")?;
         assert_eq!(rt; (placed.at, placed.dss.corr), (*at, *corr));
