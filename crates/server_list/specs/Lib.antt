@@ -1,0 +1,5 @@
+pub mod Tried
+pub mod Lists
+pub mod Inside
+pub mod Layout
+pub mod Choice
