@@ -2,7 +2,7 @@
 use Rattle.std.proofs.Common.{◌≡◌, ℕ, zero, suc, ◌+◌, ◌-◌, ◌<◌, ◌≤◌, Bool, true, false, cond, List, [], ◌++◌, length, take, drop, refl, sym, ap, subst, ◌∙◌}
 use Rattle.std.proofs.Common.{append_assoc, arith}
 use Rattle.std.proofs.lemmas.Bool.{cond-true, cond-false, lt-ltb, le-ltb}
-use Rattle.std.proofs.lemmas.List.{length-append, length-drop, drop-drop, drop-append-le, drop_all, take_rest, append-nil}
+use Rattle.std.proofs.lemmas.List.{length-append, length-drop, drop-drop, drop-append-le, drop_all, take_all, take_rest, append-nil}
 use Rattle.dss_frame.specs.declared.fault.Why.TheVariants.{Continue}
 use Rattle.dss_frame.specs.declared.extent.Extent.{Extent}
 use Rattle.dss_frame.specs.declared.extent.Extent.TheVariants.{Awaits, Ends, Fails}
@@ -230,6 +230,14 @@ holds_more_at (suc count) offset total skip rest sofar body part now enough ends
 pub holds_more : (offset total skip : ℕ) (rest sofar body part now : List ℕ) → Holds offset total skip rest sofar body → continues rest ≡ true → part ≡ drop skip (take (segment_size rest) rest) → now ≡ sofar ++ part → Holds (offset + segment_size rest) total 2 (drop (segment_size rest) rest) now body
 holds_more offset total skip rest sofar body part now h more is grown =
     holds_more_at h.count offset total skip rest sofar body part now h.enough h.ends h.all more is grown
+
+-- what one segment holds that is the only one
+pub only_segment : (bytes : List ℕ) → segments_extent (length bytes) 0 bytes ≡ Ends (length bytes) → continues bytes ≡ false → drop 6 bytes ≡ body_of (length bytes) 6 bytes
+only_segment bytes whole none =
+    let s = segments_end (length bytes) 0 bytes (length bytes) whole in
+    let size : segment_size bytes ≡ length bytes = omega (arith, s.last none) in
+    let all : take (segment_size bytes) bytes ≡ bytes = take_all (segment_size bytes) bytes (omega arith) in
+    sym (body_last (length bytes) 6 bytes (omega arith) s.whole.long none ∙ ap (drop 6) all)
 
 -- ---- as the code takes the rest of the bytes
 

@@ -1,12 +1,12 @@
-ghost use Rattle.std.specs.Prelude.{◌≡◌, ◌<◌, ◌≤◌, length, IfOk};
+ghost use Rattle.std.specs.Prelude.{◌≡◌, [], ◌<◌, ◌≤◌, length, IfOk, OnOk};
 ghost use Rattle.dss_frame.specs.Segments.{segment_size as size_of, continues, has_bit as bit_of, kind_of, is_format_of, header_fault as first_fault, field_offset, segments_extent as extent_from, extent_of, dss_of as dss_in, body_of};
 ghost use Rattle.dss_frame.specs.Walk.{walked_to, IsWalked};
 
 use crate::dss::{Dss, Kind, Side};
 use crate::fault::Why;
 use byteorder::{BigEndian, ByteOrder};
+use bytes::BytesMut;
 use link_ends::{NoMemory, Octets};
-use std::alloc::Global;
 
 /// The third byte of each DSS.
 const MAGIC: u8 = 0xD0;
@@ -31,6 +31,12 @@ const LEAST_FURTHER: usize = 3;
 
 /// The bit of a length that says that another segment follows, and how many lengths there are below it.
 const CONTINUES: u16 = 0x8000;
+
+/// A body of so many bytes in one segment stands in the value itself.
+const SHORT_BODY: usize = 24;
+
+/// How many bytes of room for bodies are made at once, at least.
+const BLOCK: usize = 65_536;
 
 /// What is known of a DSS from the bytes of it that have come.
 #[derive(Clone, Copy, Debug)]
@@ -184,9 +190,9 @@ fn walk_on(bytes: &[u8], walked: usize) -> Walk
     }
 }
 
-/// The DSS that these bytes are, all of them.
+/// The DSS that these bytes are, all of them. A long body is put into the room.
 #[tactic(auto, unfolding(crate::specs::Segments::dss_of))]
-pub(crate) fn dss_of(alloc: Global, side: Side, bytes: &[u8]) -> Result<Dss, NoMemory>
+pub(crate) fn dss_of(room: &mut BytesMut, side: Side, bytes: &[u8]) -> Result<Dss, NoMemory>
     requires { extent_of side bytes.now ≡ Extent.Ends (length bytes.now) }
     ensures { IfOk result (λ d. d ≡ dss_in bytes.now) }
 {
@@ -197,26 +203,50 @@ pub(crate) fn dss_of(alloc: Global, side: Side, bytes: &[u8]) -> Result<Dss, NoM
         same: has_bit(format, SAME),
         go_on: has_bit(format, GO_ON),
         corr: BigEndian::read_u16(&bytes[4..]),
-        body: body(alloc, bytes)?,
+        body: body(room, bytes)?,
     })
 }
 
 /// What the segments hold that these bytes are, all of them.
-fn body(alloc: Global, bytes: &[u8]) -> Result<Octets, NoMemory>
+fn body(room: &mut BytesMut, bytes: &[u8]) -> Result<Octets, NoMemory>
     requires first { 6 ≤ size_of bytes.now }
     requires whole { extent_from (length bytes.now) 0 bytes.now ≡ Extent.Ends (length bytes.now) }
     ensures { IfOk result (λ body. body ≡ body_of (length bytes.now) 6 bytes.now) }
 {
-    let mut body = Octets::new(alloc);
+    if bytes.len() <= HEADER + SHORT_BODY && !continues(bytes) {
+        return Octets::of(*room.allocator(), &bytes[HEADER..]);
+    }
+    long_body(room, bytes)
+}
+
+/// The same, put together in the room.
+fn long_body(room: &mut BytesMut, bytes: &[u8]) -> Result<Octets, NoMemory>
+    requires first { 6 ≤ size_of bytes.now }
+    requires whole { extent_from (length bytes.now) 0 bytes.now ≡ Extent.Ends (length bytes.now) }
+    ensures { IfOk result (λ body. body ≡ body_of (length bytes.now) 6 bytes.now) }
+{
+    empty_for(room, bytes.len())?;
     let mut rest = bytes;
     let mut header = HEADER;
     loop {
         let (segment, after) = rest.split_at(segment_size(rest));
-        body.push_all(&segment[header..])?;
+        room.extend_from_slice(&segment[header..])?;
         if !continues(rest) {
-            return Ok(body);
+            let body = room.freeze_to(room.len())?;
+            return Ok(Octets::from_shared(*room.allocator(), body));
         }
         rest = after;
         header = FURTHER_HEADER;
     }
+}
+
+/// Empties the room, and sees that so many bytes fit in it.
+fn empty_for(room: &mut BytesMut, len: usize) -> Result<(), NoMemory>
+    ensures { OnOk result (room.new.items ≡ []) }
+{
+    room.clear();
+    if room.capacity() < len {
+        room.reserve(len.max(BLOCK))?;
+    }
+    Ok(())
 }

@@ -7,6 +7,7 @@ use crate::dss::{Placed, Side};
 use crate::fault::{FeedFault, StreamFault};
 use crate::scan::{Scanner, keep_from};
 use crate::step::Position;
+use bytes::BytesMut;
 use std::alloc::Global;
 use std::collections::VecDeque;
 use std::marker::Model;
@@ -15,9 +16,10 @@ use std::marker::Model;
 /// begins, the bytes of that one so far, and the fault that ended the reading.
 #[derive(Debug, Drop)]
 pub struct Reader {
-    alloc: Global,
     side: Side,
     limit: u64,
+    /// Where long bodies are put, many into one block.
+    room: BytesMut,
     whole: VecDeque<Placed>,
     position: Position,
     begun: Vec<u8>,
@@ -47,9 +49,9 @@ impl Reader {
         ensures { result ≡ start side limit }
     {
         Reader {
-            alloc,
             side,
             limit,
+            room: BytesMut::new(alloc),
             whole: VecDeque::new(alloc),
             position: Position::first(limit),
             begun: Vec::new(alloc),
@@ -82,7 +84,7 @@ impl Reader {
             position: self.position,
             walked: self.walked,
         };
-        let Ok(scan) = scanner.scan(self.alloc, self.begun.as_slice(), &mut self.whole) else {
+        let Ok(scan) = scanner.scan(&mut self.room, self.begun.as_slice(), &mut self.whole) else {
             self.begun.truncate(begun);
             self.whole.truncate(whole);
             return Err(FeedFault::NoMemory);

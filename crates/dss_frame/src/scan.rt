@@ -6,8 +6,8 @@ use crate::dss::{Placed, Side};
 use crate::extent::dss_of;
 use crate::fault::StreamFault;
 use crate::step::{Position, Step};
+use bytes::BytesMut;
 use link_ends::NoMemory;
-use std::alloc::Global;
 use std::collections::VecDeque;
 
 /// Whose DSSs are read, from where on, and how far the first one was walked before.
@@ -31,11 +31,11 @@ pub(crate) struct Scan {
 }
 
 impl Scanner {
-    /// Reads the bytes, with which a DSS begins, and puts each whole DSS behind `whole`. After a fault no byte is left.
-    /// Where memory runs out some of the DSSs may stand there.
+    /// Reads the bytes, with which a DSS begins, and puts each whole DSS behind `whole`, with its body in
+    /// the room where it is long. After a fault no byte is left. Where memory runs out some of the DSSs may stand there.
     pub(crate) fn scan(
         self,
-        alloc: Global,
+        room: &mut BytesMut,
         bytes: &[u8],
         whole: &mut VecDeque<Placed>,
     ) -> Result<Scan, NoMemory>
@@ -68,7 +68,7 @@ impl Scanner {
                     });
                 }
                 Step::Reads { len } => {
-                    let dss = dss_of(alloc, self.side, &rest[..len])?;
+                    let dss = dss_of(room, self.side, &rest[..len])?;
                     let after = position.after(self.limit, &dss, len);
                     whole.push_back(Placed {
                         at: position.at,

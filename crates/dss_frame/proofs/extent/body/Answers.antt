@@ -1,40 +1,20 @@
-use Rattle.std.proofs.Common.{◌≡◌, ℕ, ◌+◌, ◌<◌, List, length, drop, sym, ap, ◌∙◌, arith}
-use Rattle.std.proofs.lemmas.List.{length-drop}
-use Rattle.dss_frame.specs.Segments.{segment_size}
-use Rattle.dss_frame.proofs.Walking.{holds_segment, holds_last, holds_more, part_is}
+use Rattle.std.proofs.Common.{◌≡◌, ℕ, List, IfOk, drop, length, sym, subst, ◌∙◌, arith, rules}
+use Rattle.std.proofs.lemmas.List.{take_rest}
+use Rattle.dss_frame.specs.Segments.{body_of}
+use Rattle.dss_frame.proofs.FirstSegment.{segments_end}
+use Rattle.dss_frame.proofs.Walking.{only_segment}
 use Rattle.dss_frame.proofs.extent.body.Goals as goal
 
-pub segment_size-requires : goal.segment_size-requires
-segment_size-requires c =
-    let s = holds_segment _ _ _ _ _ _ c.loop-body.invariant.1 in
-    s.whole.long
-
-pub split_at-requires : goal.split_at-requires
-split_at-requires c =
-    let s = holds_segment _ _ _ _ _ _ c.loop-body.invariant.1 in
-    omega (arith, s.whole.there, c.segment_size.ensures.size)
-
 pub continues-requires : goal.continues-requires
-continues-requires c =
-    let s = holds_segment _ _ _ _ _ _ c.loop-body.invariant.1 in
-    s.whole.long
+continues-requires c = let s = segments_end _ 0 c.args.bytes.now _ c.requires.whole in s.whole.long
+
+pub slice_bounds-of-count : goal.slice_bounds-of-count
+slice_bounds-of-count c = let s = segments_end _ 0 c.args.bytes.now _ c.requires.whole in omega (arith, s.whole.there, c.requires.first)
+
+pub slice_bounds-of-start : goal.slice_bounds-of-start
+slice_bounds-of-start c = let s = segments_end _ 0 c.args.bytes.now _ c.requires.whole in search rules
 
 pub returns-then-not-continues : goal.returns-then-not-continues
 returns-then-not-continues c =
-    let part = part_is c.loop-body.rest.now c.split_at.result.0.now c.loop-body.header c.segment_size.result c.split_at.ensures.front c.segment_size.ensures.size in
-    holds_last _ _ _ _ _ _ _ _ c.loop-body.invariant.1 (sym c.continues.ensures ∙ c.if-not-continues.true) part c.in_ok-push_all.ensures.ok
-
-pub loop-body-smaller : goal.loop-body-smaller
-loop-body-smaller c =
-    let s = holds_segment _ _ _ _ _ _ c.loop-body.invariant.1 in
-    let less : length c.split_at.result.1.now < length c.loop-body.rest.now =
-    omega (arith, s.whole.least, s.whole.there, c.segment_size.ensures.size, ap length c.split_at.ensures.back, length-drop {A = ℕ}) in
-    less
-
-pub loop-body-preserved : goal.loop-body-preserved
-loop-body-preserved c =
-    let rest : List ℕ = c.loop-body.rest.now in
-    let part = part_is rest c.split_at.result.0.now c.loop-body.header c.segment_size.result c.split_at.ensures.front c.segment_size.ensures.size in
-    let next = holds_more _ _ _ _ _ _ _ _ c.loop-body.invariant.1 (sym c.continues.ensures ∙ c.if-not-continues.false) part c.in_ok-push_all.ensures.ok in
-    let after : c.split_at.result.1.now ≡ drop (segment_size rest) rest = c.split_at.ensures.back ∙ ap (λ (n : ℕ). drop n rest) c.segment_size.ensures.size in
-    (c.loop-body.invariant.0 + segment_size rest, rw after next)
+    subst (λ (xs : List ℕ). IfOk c.of.result (λ body. body ≡ xs))
+    (take_rest c.args.bytes.now 6 ∙ only_segment c.args.bytes.now c.requires.whole (sym c.continues.ensures ∙ c.if-not-continues.true)) c.of.ensures
