@@ -5,7 +5,7 @@ use Rattle.dss_frame.specs.declared.dss.Kind.{Kind}
 use Rattle.dss_frame.specs.declared.dss.Kind.TheVariants.{Request, Reply, Object}
 use Rattle.dss_frame.specs.declared.dss.Dss.{Dss}
 
--- DRDA, volume 3, DSS: the low four bits of the format byte say what the DSS holds.
+-- DSS: the low four bits of the format byte say what the DSS holds.
 abbrev pub kind_number : Kind → ℕ
 kind_number Request = 1
 kind_number Reply = 2
@@ -15,22 +15,22 @@ kind_number Object = 3
 abbrev pub flag : Bool → ℕ → ℕ
 flag set value = if set then value else 0
 
--- DRDA, volume 3, DSS: the format byte. 40 is set where the DSS is chained to the next one, 20 where the chain goes on
+-- DSS: the format byte. 40 is set where the DSS is chained to the next one, 20 where the chain goes on
 -- after an error, 10 where the next one has the same correlation number.
 abbrev pub format_byte : Dss → ℕ
 format_byte d = flag d.chained 64 + flag d.go_on 32 + flag d.same 16 + kind_number d.kind
 
--- DRDA, volume 3, DSS: the length of a segment in two bytes, the higher first. The top bit is set where another
+-- DSS: the length of a segment in two bytes, the higher first. The top bit is set where another
 -- segment follows.
 abbrev pub segment_length : ℕ → Bool → List ℕ
 segment_length bytes continues = to_be_bytes w16 (bytes + flag continues 32768)
 
--- DRDA, volume 3, DSS: how many bytes of body the first segment holds, at most, which has 32,767 bytes and six of them
+-- DSS: how many bytes of body the first segment holds, at most, which has 32,767 bytes and six of them
 -- before its body
 abbrev pub first_room : ℕ
 first_room = 32761
 
--- DRDA, volume 3, DSS: how many a further segment holds, at most, which has two bytes before its part of the body
+-- DSS: how many a further segment holds, at most, which has two bytes before its part of the body
 abbrev pub further_room : ℕ
 further_room = 32765
 
@@ -38,16 +38,20 @@ further_room = 32765
 abbrev pub further_count : ℕ → ℕ
 further_count bytes = (bytes + 32764) / further_room
 
--- DRDA, volume 3, DSS: further segments, of which there are this many: two bytes of length, which count themselves,
+-- DSS: further segments, of which there are this many: two bytes of length, which count themselves,
 -- and the next part of the body. That all but the last are full is this project's choice.
 unfoldable pub further : ℕ → List ℕ → List ℕ
 further zero body = []
 further (suc count) body =
     segment_length (2 + length (take further_room body)) (nat_lt 0 count) ++ (take further_room body ++ further count (drop further_room body))
 
--- DRDA, volume 3, DSS: the header of the first segment: its length, D0, the format byte and the correlation number.
+-- DSS: the third byte of each DSS, D0
+abbrev pub magic : ℕ
+magic = 208
+
+-- DSS: the header of the first segment: its length, D0, the format byte and the correlation number.
 abbrev pub header : Dss → ℕ → Bool → List ℕ
-header d bytes continues = segment_length bytes continues ++ (208 ∷ format_byte d ∷ to_be_bytes w16 d.corr)
+header d bytes continues = segment_length bytes continues ++ (magic ∷ format_byte d ∷ to_be_bytes w16 d.corr)
 
 -- the further segments of a DSS
 abbrev pub further_segments : List ℕ → List ℕ

@@ -6,11 +6,15 @@ use Rattle.dss_frame.specs.declared.fault.Why.TheVariants.{Short, NoD0, Format, 
 use Rattle.dss_frame.specs.declared.fault.StreamFault.{StreamFault}
 use Rattle.dss_frame.specs.declared.fault.StreamFault.TheVariants as stream
 use Rattle.dss_frame.specs.declared.fault.FeedFault.{FeedFault}
-use Rattle.dss_frame.specs.declared.fault.FeedFault.TheVariants.{Frame, TooLong}
+use Rattle.dss_frame.specs.declared.fault.FeedFault.TheVariants.{Frame, TooLong, NoMemory}
 
 abbrev pub answer_of : StreamFault → FeedFault
 answer_of (stream.Frame at why corr) = Frame at why corr
 answer_of (stream.TooLong at corr) = TooLong at corr
+
+-- what want of memory is answered as
+abbrev pub want_of_memory : FeedFault
+want_of_memory = NoMemory
 
 abbrev pub place_of : StreamFault → ℕ
 place_of (stream.Frame at why corr) = at

@@ -1,6 +1,7 @@
 -- How bytes are read as DSSs, in whatever pieces they come. What a reader is seen as, its limit and its places are this
 -- project's own; what a DSS is stands in Segments.antt and Spelling.antt.
-use Rattle.std.specs.Prelude.{ℕ, zero, suc, ◌≡◌, ◌+◌, ◌-◌, ◌^◌, List, [], ◌∷◌, ◌++◌, length, take, drop, min, is_some, nat_lt, if◌then◌else◌, Option, Some, None}
+use Rattle.std.specs.Prelude.{ℕ, zero, suc, ◌≡◌, ◌+◌, ◌-◌, ◌^◌, List, [], ◌∷◌, ◌++◌, length, take, drop, min, is_some, nat_lt, if◌then◌else◌, Option}
+use Rattle.std.specs.Prelude.{Some, None}
 use Rattle.dss_frame.specs.declared.dss.Side.{Side}
 use Rattle.dss_frame.specs.declared.dss.Dss.{Dss}
 use Rattle.dss_frame.specs.declared.dss.Placed.{Placed}
@@ -10,8 +11,8 @@ use Rattle.dss_frame.specs.declared.fault.FeedFault.{FeedFault}
 use Rattle.dss_frame.specs.declared.fault.FeedFault.TheVariants.{NoMemory}
 use Rattle.dss_frame.specs.Fault.{answer_of}
 use Rattle.std.specs.Option.{option_map}
-use Rattle.dss_frame.specs.declared.extent.Extent.{Extent}
-use Rattle.dss_frame.specs.declared.extent.Extent.TheVariants.{Awaits, Ends, Fails}
+use Rattle.dss_frame.specs.declared.segments.Extent.{Extent}
+use Rattle.dss_frame.specs.declared.segments.Extent.TheVariants.{Awaits, Ends, Fails}
 use Rattle.dss_frame.specs.declared.step.Position.{Position}
 use Rattle.dss_frame.specs.declared.step.Step.{Step}
 use Rattle.dss_frame.specs.declared.step.Step.TheVariants.{Waits, Reads, Stops}

@@ -1,6 +1,9 @@
 -- How far the segments of a DSS are walked that isn't whole yet. No standard speaks of it: this is this project's own.
 use Rattle.std.specs.Prelude.{ℕ, zero, suc, ◌≡◌, ◌+◌, ◌≤◌, List, length, drop, nat_lt, if◌then◌else◌}
-use Rattle.dss_frame.specs.declared.extent.Extent.{Extent}
+use Rattle.dss_frame.specs.declared.segments.Extent.{Extent}
+use Rattle.dss_frame.specs.declared.segments.Extent.TheVariants.{Awaits, Ends, Fails}
+use Rattle.dss_frame.specs.declared.step.Step.{Step}
+use Rattle.dss_frame.specs.declared.step.Step.TheVariants.{Waits, Reads, Stops}
 use Rattle.dss_frame.specs.Segments.{segment_size, continues, segments_extent}
 
 -- The offset of the first segment that isn't whole, or has a wrong length, or is the last one, of at most count segments
@@ -29,3 +32,14 @@ pub record ComesTo (offset : ℕ) (rest : List ℕ) (extent : Extent) (walked : 
 pub record IsWalked (offset : ℕ) (bytes : List ℕ) : Type 0 where
   pub within : offset ≤ length bytes
   pub comes_to : ComesTo offset (drop offset bytes) (segments_extent (length bytes) 0 bytes) (walked_to bytes)
+
+-- a DSS that ends has its last segment, of three bytes at least, behind what was walked
+abbrev pub EndsBehind : ℕ → Extent → Type 0
+EndsBehind walked Awaits = Unit {0}
+EndsBehind walked (Ends count) = walked + 3 ≤ count
+EndsBehind walked (Fails offset why) = Unit {0}
+
+abbrev pub ReadsBehind : ℕ → Step → Type 0
+ReadsBehind walked Waits = Unit {0}
+ReadsBehind walked (Reads count) = walked + 3 ≤ count
+ReadsBehind walked (Stops fault) = Unit {0}

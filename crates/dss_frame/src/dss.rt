@@ -1,4 +1,4 @@
-use link_ends::Octets;
+use link_ends::{Octets, Sequence};
 
 /// What a DSS holds.
 #[derive(Clone, Copy, Debug, PartialEq, Eq)]
@@ -43,3 +43,6 @@ pub struct Placed {
     pub at: u64,
     pub dss: Dss,
 }
+
+/// A list of DSSs.
+pub type DssList = Sequence<Dss>;

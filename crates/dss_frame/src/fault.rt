@@ -1,6 +1,5 @@
 ghost use Rattle.std.specs.Prelude.{◌≡◌};
-ghost use Rattle.dss_frame.specs.Fault.{answer_of, place_of, shown_by};
-ghost use Rattle.dss_frame.specs.declared.fault.FeedFault.TheVariants.{NoMemory as OutOfMemory};
+ghost use Rattle.dss_frame.specs.Fault.{answer_of, want_of_memory, place_of, shown_by};
 
 use link_ends::NoMemory;
 use std::alloc::AllocError;
@@ -78,7 +77,7 @@ impl From<StreamFault> for FeedFault {
 }
 
 impl From<NoMemory> for FeedFault {
-    ghost from_gives = { λ _ e. e ≡ OutOfMemory };
+    ghost from_gives = { λ _ e. e ≡ want_of_memory };
 
     fn from(_error: NoMemory) -> FeedFault {
         FeedFault::NoMemory
@@ -86,7 +85,7 @@ impl From<NoMemory> for FeedFault {
 }
 
 impl From<AllocError> for FeedFault {
-    ghost from_gives = { λ _ e. e ≡ OutOfMemory };
+    ghost from_gives = { λ _ e. e ≡ want_of_memory };
 
     fn from(_error: AllocError) -> FeedFault {
         FeedFault::NoMemory

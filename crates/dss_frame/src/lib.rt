@@ -3,17 +3,17 @@
 #![tactic(auto)]
 
 mod dss;
-mod extent;
 mod fault;
 mod laws;
 mod reader;
 mod scan;
+mod segments;
 mod spelling_laws;
 mod step;
 mod stream_laws;
 mod writer;
 
-pub use dss::{Dss, Kind, Placed, Side};
+pub use dss::{Dss, DssList, Kind, Placed, Side};
 pub use fault::{FeedFault, StreamFault, Why};
 pub use laws::{calls_read_as_one, pieces_read_as_one, what_was_read_stays};
 pub use reader::Reader;

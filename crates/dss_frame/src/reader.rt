@@ -22,8 +22,8 @@ pub struct Reader {
     room: BytesMut,
     whole: VecDeque<Placed>,
     position: Position,
-    begun: Vec<u8>,
-    /// How far the segments of the DSS were walked that has begun.
+    open: Vec<u8>,
+    /// How far the segments of the open DSS were walked.
     walked: usize,
     fault: Option<StreamFault>,
 }
@@ -37,9 +37,9 @@ impl Model for Reader {
     ghost use Rattle.dss_frame.specs.Kept.{IsWithin};
     ghost use Rattle.dss_frame.specs.Walk.{walked_to};
 
-    ghost view = { λ r. record { side = r.side; limit = r.limit; whole = r.whole.items; position = r.position; «open» = r.begun.items; fault = r.fault } };
+    ghost view = { λ r. record { side = r.side; limit = r.limit; whole = r.whole.items; position = r.position; «open» = r.open.items; fault = r.fault } };
 
-    ghost invariant = { λ r. IsWithin r.limit r.whole.items r.position × (r.walked ≡ walked_to r.begun.items) };
+    ghost invariant = { λ r. IsWithin r.limit r.whole.items r.position × (r.walked ≡ walked_to r.open.items) };
 }
 
 impl Reader {
@@ -54,7 +54,7 @@ impl Reader {
             room: BytesMut::new(alloc),
             whole: VecDeque::new(alloc),
             position: Position::first(limit),
-            begun: Vec::new(alloc),
+            open: Vec::new(alloc),
             walked: 0,
             fault: None,
         }
@@ -75,21 +75,21 @@ impl Reader {
         if let Some(fault) = self.fault {
             return Err(FeedFault::from(fault));
         }
-        let begun = self.begun.len();
+        let kept = self.open.len();
         let whole = self.whole.len();
-        self.begun.extend_from_slice(piece)?;
+        self.open.extend_from_slice(piece)?;
         let scanner = Scanner {
             side: self.side,
             limit: self.limit,
             position: self.position,
             walked: self.walked,
         };
-        let Ok(scan) = scanner.scan(&mut self.room, self.begun.as_slice(), &mut self.whole) else {
-            self.begun.truncate(begun);
+        let Ok(scan) = scanner.scan(&mut self.room, self.open.as_slice(), &mut self.whole) else {
+            self.open.truncate(kept);
             self.whole.truncate(whole);
             return Err(FeedFault::NoMemory);
         };
-        keep_from(&mut self.begun, scan.begins);
+        keep_from(&mut self.open, scan.begins);
         self.position = scan.position;
         self.walked = scan.walked;
         self.fault = scan.fault;
@@ -125,16 +125,16 @@ impl Reader {
             Some(placed) => placed.at,
             None => self.position.at,
         };
-        let begun = match self.fault {
+        let behind = match self.fault {
             Some(fault) => fault
                 .at()
                 .saturating_sub(self.position.at)
                 .saturating_add(fault.shown_by()),
-            None => self.begun.len() as u64,
+            None => self.open.len() as u64,
         };
         self.position
             .at
             .saturating_sub(first)
-            .saturating_add(begun) as usize
+            .saturating_add(behind) as usize
     }
 }

@@ -1,9 +1,9 @@
-ghost use Rattle.std.specs.Prelude.{◌≡◌, ◌≤◌, length, drop, IfOk, OnErr};
+ghost use Rattle.std.specs.Prelude.{◌≡◌, ◌+◌, ◌*◌, ◌≤◌, length, drop, IfOk, OnErr};
 ghost use Rattle.dss_frame.specs.Scan.{Scanned, Extends};
 ghost use Rattle.dss_frame.specs.Walk.{walked_to, IsWalked};
 
 use crate::dss::{Placed, Side};
-use crate::extent::dss_of;
+use crate::segments::dss_of;
 use crate::fault::StreamFault;
 use crate::step::{Position, Step};
 use bytes::BytesMut;
@@ -20,14 +20,15 @@ pub(crate) struct Scanner {
     pub(crate) walked: usize,
 }
 
-/// What a scan comes to: how many bytes were read, where the DSS begins that isn't whole, how far that one was walked, and
-/// the fault if there is one.
+/// What a scan comes to: how many bytes were read, where the DSS begins that isn't whole, how far that one was walked, the
+/// fault if there is one, and how many segments were judged.
 #[derive(Clone, Copy, Debug)]
 pub(crate) struct Scan {
     pub(crate) begins: usize,
     pub(crate) position: Position,
     pub(crate) walked: usize,
     pub(crate) fault: Option<StreamFault>,
+    pub(crate) judged: usize,
 }
 
 impl Scanner {
@@ -42,21 +43,25 @@ impl Scanner {
         requires { IsWalked self.walked bytes.now }
         ensures ok { IfOk result (Scanned self.side self.limit self.position bytes.now whole.old.items whole.new.items) }
         ensures walked { IfOk result (λ scan. scan.walked ≡ walked_to (drop scan.begins bytes.now)) }
+        ensures steps { IfOk result (λ scan. 3 * scan.judged + self.walked ≤ scan.begins + scan.walked + 3) }
         ensures err { OnErr result (Extends whole.old.items whole.new.items) }
     {
         let mut begins = 0;
         let mut position = self.position;
         let mut walked = self.walked;
+        let mut judged = 0;
         loop {
             let rest = &bytes[begins..];
-            let judged = position.next(self.side, rest, walked);
-            match judged.step {
+            let next = position.next(self.side, rest, walked);
+            judged += next.judged;
+            match next.step {
                 Step::Waits => {
                     return Ok(Scan {
                         begins,
                         position,
-                        walked: judged.walked,
+                        walked: next.walked,
                         fault: None,
+                        judged,
                     });
                 }
                 Step::Stops { fault } => {
@@ -65,6 +70,7 @@ impl Scanner {
                         position,
                         walked: 0,
                         fault: Some(fault),
+                        judged,
                     });
                 }
                 Step::Reads { len } => {

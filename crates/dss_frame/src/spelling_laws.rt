@@ -5,7 +5,7 @@ ghost use Rattle.std.specs.List.{All};
 ghost use Rattle.dss_frame.specs.declared.dss.Side.{Side};
 ghost use Rattle.dss_frame.specs.declared.dss.Dss.{Dss};
 ghost use Rattle.dss_frame.specs.declared.fault.Why.{Why};
-ghost use Rattle.dss_frame.specs.declared.extent.Extent.TheVariants.{Awaits, Ends, Fails};
+ghost use Rattle.dss_frame.specs.declared.segments.Extent.TheVariants.{Awaits, Ends, Fails};
 ghost use Rattle.dss_frame.specs.Dss.{canonical};
 ghost use Rattle.dss_frame.specs.Segments.{extent_of, dss_of};
 ghost use Rattle.dss_frame.specs.Spelling.{IsDssOf, Spells, IsBadField};

@@ -1,9 +1,9 @@
-ghost use Rattle.std.specs.Prelude.{◌≡◌, ◌≤◌, length};
-ghost use Rattle.dss_frame.specs.Reading.{further_on as place_on, number_for as number_of, too_long, step_of, first_position, position_after};
-ghost use Rattle.dss_frame.specs.Walk.{walked_to, IsWalked};
+ghost use Rattle.std.specs.Prelude.{◌≡◌, ◌+◌, ◌*◌, ◌≤◌, length};
+ghost use Rattle.dss_frame.specs.Reading.{further_on, number_for, too_long, step_of, first_position, position_after};
+ghost use Rattle.dss_frame.specs.Walk.{walked_to, IsWalked, ReadsBehind};
 
 use crate::dss::{Dss, Side};
-use crate::extent::{Extent, judge};
+use crate::segments::{Extent, judge};
 use crate::fault::StreamFault;
 use byteorder::{BigEndian, ByteOrder};
 
@@ -32,11 +32,12 @@ pub(crate) enum Step {
     Stops { fault: StreamFault },
 }
 
-/// What comes next, and how far the segments of the DSS were walked where more bytes of it are awaited.
+/// What comes next, how far the segments of the DSS were walked, and how many were judged on the way.
 #[derive(Clone, Copy, Debug)]
 pub(crate) struct Judged {
     pub(crate) step: Step,
     pub(crate) walked: usize,
+    pub(crate) judged: usize,
 }
 
 impl Position {
@@ -69,7 +70,7 @@ impl Position {
 
     /// The place so many bytes further on.
     fn place(self, bytes: u64) -> u64
-        ensures { result ≡ place_on self.at bytes }
+        ensures { result ≡ further_on self.at bytes }
     {
         self.at.saturating_add(bytes)
     }
@@ -77,7 +78,7 @@ impl Position {
     /// The correlation number of a fault at this offset of a DSS that begins with these bytes.
     fn number_for(self, bytes: &[u8], offset: u64) -> u16
         requires { offset ≤ length bytes.now }
-        ensures { result ≡ number_of self bytes.now offset }
+        ensures { result ≡ number_for self bytes.now offset }
     {
         if offset < NUMBERED as u64 {
             self.before
@@ -104,6 +105,9 @@ impl Position {
         requires { IsWalked walked bytes.now }
         ensures step { result.step ≡ step_of side self bytes.now }
         ensures walked { result.step ≡ Step.Waits → result.walked ≡ walked_to bytes.now }
+        ensures steps { 3 * result.judged + walked ≤ result.walked + 3 }
+        ensures last { ReadsBehind result.walked result.step }
+        ensures within { result.walked ≤ length bytes.now }
     {
         let walk = judge(side, bytes, walked);
         let step = match walk.extent {
@@ -138,6 +142,7 @@ impl Position {
         Judged {
             step,
             walked: walk.walked,
+            judged: walk.judged,
         }
     }
 }

@@ -285,3 +285,53 @@ fn writes_full_segments(rt: HostRuntime) -> Result<(), Fail> {
     ];
     write_and_read(&rt, alloc, 100_004, &four, 100_016)
 }
+
+#[test]
+fn holds_what_is_not_taken(rt: HostRuntime) -> Result<(), Fail> {
+    let mut reader = Reader::new(rt.alloc(), Side::Requests, MOST);
+    let fed = reader.feed(b"\x00\x0A\xD0\x01\x00\x01\x00\x04\x10\x41\x00\x05");
+    assert_eq!(rt; fed.err(), frame(10, Why::Short, 0));
+    assert_eq!(rt; reader.held(), 12);
+    let first = reader.take().ok_or("the first DSS")?.dss;
+    assert_eq!(rt; first.body.as_slice(), b"\x00\x04\x10\x41".as_slice());
+    assert_eq!(rt; reader.held(), 2);
+    Ok(())
+}
+
+#[test]
+fn reads_a_long_chain_byte_by_byte(rt: HostRuntime) -> Result<(), Fail> {
+    let alloc = rt.alloc();
+    let mut dsss = DssList::new(alloc);
+    dsss.push(Dss {
+        kind: Kind::Request,
+        chained: true,
+        same: true,
+        go_on: false,
+        corr: 1,
+        body: Octets::of(alloc, b"\x00\x04\x20\x0B")?,
+    })?;
+    dsss.push(Dss {
+        kind: Kind::Object,
+        chained: false,
+        same: false,
+        go_on: false,
+        corr: 1,
+        body: Octets::of(alloc, vec![in alloc; 7; 4_000_000]?.as_slice())?,
+    })?;
+    let mut out = Octets::new(alloc);
+    for dss in dsss.as_slice() {
+        assert!(rt; dss.chained || !dss.same);
+        write_dss(dss, &mut out)?;
+    }
+    let mut reader = Reader::new(alloc, Side::Requests, MOST);
+    for byte in out.as_slice().chunks(1) {
+        reader.feed(byte)?;
+    }
+    assert_eq!(rt; reader.held(), out.len());
+    for dss in dsss.as_slice() {
+        let read = reader.take().ok_or("a whole DSS")?.dss;
+        assert_eq!(rt; read.body.as_slice(), dss.body.as_slice());
+    }
+    assert_eq!(rt; reader.held(), 0);
+    Ok(())
+}

@@ -1,8 +1,9 @@
 ghost use Rattle.std.specs.Prelude.{◌≡◌, ◌+◌, ◌<◌, ◌++◌, length, take, drop, IsTrue, OnOk, OnErr};
-ghost use Rattle.dss_frame.specs.Dss.{kind_number, flag, format_byte as format_byte_of, segment_length, header, canonical};
+ghost use Rattle.dss_frame.specs.Dss.{kind_number, flag, format_byte, segment_length, header, canonical};
 ghost use Rattle.dss_frame.specs.Scan.{Extends};
 
 use crate::dss::{Dss, Kind};
+use crate::segments::{FURTHER_HEADER, HEADER, MAGIC};
 use byteorder::{BigEndian, ByteOrder};
 use link_ends::{NoMemory, Octets};
 
@@ -32,7 +33,7 @@ fn kind_bits(kind: Kind) -> u8
 }
 
 fn format_byte(dss: &Dss) -> u8
-    ensures { result ≡ format_byte_of dss.now }
+    ensures { result ≡ format_byte dss.now }
 {
     bit(dss.chained, 0x40) + bit(dss.go_on, 0x20) + bit(dss.same, 0x10) + kind_bits(dss.kind)
 }
@@ -65,7 +66,7 @@ fn push_header(dss: &Dss, len: usize, continues: bool, out: &mut Octets) -> Resu
 {
     let mut bytes = [0; 6];
     BigEndian::write_u16(&mut bytes, length_field(len, continues));
-    bytes[2] = 0xD0;
+    bytes[2] = MAGIC;
     bytes[3] = format_byte(dss);
     BigEndian::write_u16(&mut bytes[4..], dss.corr);
     out.push_all(&bytes)
@@ -87,11 +88,11 @@ fn push_segments(dss: &Dss, out: &mut Octets) -> Result<(), NoMemory>
     ensures err { OnErr result (Extends out.old out.new) }
 {
     let (part, mut rest) = cut(dss.body.as_slice(), FIRST_ROOM);
-    push_header(dss, 6 + part.len(), !rest.is_empty(), out)?;
+    push_header(dss, HEADER + part.len(), !rest.is_empty(), out)?;
     out.push_all(part)?;
     while !rest.is_empty() {
         let (part, after) = cut(rest, FURTHER_ROOM);
-        push_length(2 + part.len(), !after.is_empty(), out)?;
+        push_length(FURTHER_HEADER + part.len(), !after.is_empty(), out)?;
         out.push_all(part)?;
         rest = after;
     }

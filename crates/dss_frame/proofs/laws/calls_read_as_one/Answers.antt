@@ -1,4 +1,4 @@
-use Rattle.dss_frame.proofs.Calls.{calls_read}
+use Rattle.dss_frame.proofs.Pieces.Calls.{calls_read}
 use Rattle.dss_frame.proofs.laws.calls_read_as_one.Goals as goal
 
 pub returns : goal.returns

@@ -1,4 +1,4 @@
-use Rattle.dss_frame.proofs.Pieces.{fed-behind}
+use Rattle.dss_frame.proofs.Pieces.Pieces.{fed-behind}
 use Rattle.dss_frame.proofs.laws.what_was_read_stays.Goals as goal
 
 pub returns : goal.returns

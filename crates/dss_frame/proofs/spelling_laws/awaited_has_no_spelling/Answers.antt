@@ -1,4 +1,4 @@
-use Rattle.dss_frame.proofs.OneDss.{awaited_none}
+use Rattle.dss_frame.proofs.Spellings.OneSpelling.{awaited_none}
 use Rattle.dss_frame.proofs.spelling_laws.awaited_has_no_spelling.Goals as goal
 
 pub returns : goal.returns

@@ -1,4 +1,4 @@
-use Rattle.dss_frame.proofs.OneDss.{bad_fails, fails_bad}
+use Rattle.dss_frame.proofs.Spellings.OneSpelling.{bad_fails, fails_bad}
 use Rattle.dss_frame.proofs.spelling_laws.bad_fields_are_found.Goals as goal
 
 pub returns-clause-fails : goal.returns-clause-fails

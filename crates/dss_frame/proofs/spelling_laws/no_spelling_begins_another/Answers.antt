@@ -1,4 +1,4 @@
-use Rattle.dss_frame.proofs.OneDss.{one_spelling}
+use Rattle.dss_frame.proofs.Spellings.OneSpelling.{one_spelling}
 use Rattle.dss_frame.proofs.spelling_laws.no_spelling_begins_another.Goals as goal
 
 pub returns : goal.returns

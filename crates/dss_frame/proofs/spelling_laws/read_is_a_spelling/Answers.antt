@@ -1,4 +1,4 @@
-use Rattle.dss_frame.proofs.OneDss.{read_within, read_spelled}
+use Rattle.dss_frame.proofs.Spellings.OneSpelling.{read_within, read_spelled}
 use Rattle.dss_frame.proofs.spelling_laws.read_is_a_spelling.Goals as goal
 
 pub returns : goal.returns

@@ -1,4 +1,4 @@
-use Rattle.dss_frame.proofs.OneDss.{spelled_read, spelled_dss}
+use Rattle.dss_frame.proofs.Spellings.OneSpelling.{spelled_read, spelled_dss}
 use Rattle.dss_frame.proofs.spelling_laws.spelling_is_read.Goals as goal
 
 pub returns : goal.returns

@@ -1,4 +1,4 @@
-use Rattle.dss_frame.proofs.FaultIsTold.{bad_told}
+use Rattle.dss_frame.proofs.Streams.FaultIsTold.{bad_told}
 use Rattle.dss_frame.proofs.stream_laws.bad_is_found.Goals as goal
 
 pub returns : goal.returns

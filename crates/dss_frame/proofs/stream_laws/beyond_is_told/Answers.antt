@@ -1,4 +1,4 @@
-use Rattle.dss_frame.proofs.Told.{beyond_told}
+use Rattle.dss_frame.proofs.Streams.Told.{beyond_told}
 use Rattle.dss_frame.proofs.stream_laws.beyond_is_told.Goals as goal
 
 pub returns : goal.returns

@@ -1,4 +1,4 @@
-use Rattle.dss_frame.proofs.Told.{frame_told, beyond_told}
+use Rattle.dss_frame.proofs.Streams.Told.{frame_told, beyond_told}
 use Rattle.dss_frame.proofs.stream_laws.fault_has_its_number.Goals as goal
 
 pub returns-clause-frame : goal.returns-clause-frame

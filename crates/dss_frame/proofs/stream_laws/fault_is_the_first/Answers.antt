@@ -1,4 +1,4 @@
-use Rattle.dss_frame.proofs.Told.{frame_told}
+use Rattle.dss_frame.proofs.Streams.Told.{frame_told}
 use Rattle.dss_frame.proofs.stream_laws.fault_is_the_first.Goals as goal
 
 pub returns : goal.returns

@@ -1,4 +1,4 @@
-use Rattle.dss_frame.proofs.Streams.{none_mends}
+use Rattle.dss_frame.proofs.Streams.Streams.{none_mends}
 use Rattle.dss_frame.proofs.stream_laws.nothing_mends_it.Goals as goal
 
 pub returns : goal.returns

@@ -3,8 +3,8 @@ use Rattle.dss_frame.specs.Reading.{View}
 use Rattle.dss_frame.specs.Calls.{fed_by}
 use Rattle.dss_frame.specs.Spelling.{IsStream}
 use Rattle.dss_frame.specs.Told.{dsss_of}
-use Rattle.dss_frame.proofs.Calls.{calls_read}
-use Rattle.dss_frame.proofs.Told.{is_stream}
+use Rattle.dss_frame.proofs.Pieces.Calls.{calls_read}
+use Rattle.dss_frame.proofs.Streams.Told.{is_stream}
 use Rattle.dss_frame.proofs.stream_laws.read_is_a_stream.Goals as goal
 
 pub returns : goal.returns

@@ -1,4 +1,4 @@
-use Rattle.dss_frame.proofs.Told.{whole_read, stream_read}
+use Rattle.dss_frame.proofs.Streams.Told.{whole_read, stream_read}
 use Rattle.dss_frame.proofs.stream_laws.stream_is_read.Goals as goal
 
 pub returns-clause-within : goal.returns-clause-within

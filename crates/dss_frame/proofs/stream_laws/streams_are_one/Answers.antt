@@ -1,4 +1,4 @@
-use Rattle.dss_frame.proofs.Streams.{one_stream}
+use Rattle.dss_frame.proofs.Streams.Streams.{one_stream}
 use Rattle.dss_frame.proofs.stream_laws.streams_are_one.Goals as goal
 
 pub returns : goal.returns

@@ -1,4 +1,4 @@
-use Rattle.dss_frame.proofs.GoesOn.{goes_on, goes_on_before}
+use Rattle.dss_frame.proofs.Streams.GoesOn.{goes_on, goes_on_before}
 use Rattle.dss_frame.proofs.stream_laws.what_is_not_bad_goes_on.Goals as goal
 
 pub returns-clause-all : goal.returns-clause-all

@@ -1,4 +1,4 @@
-use Rattle.dss_frame.proofs.Written.{written_read}
+use Rattle.dss_frame.proofs.Streams.Written.{written_read}
 use Rattle.dss_frame.proofs.stream_laws.what_is_written_is_read.Goals as goal
 
 pub returns : goal.returns

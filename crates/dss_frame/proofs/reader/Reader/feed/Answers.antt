@@ -3,8 +3,8 @@ use Rattle.dss_frame.specs.Fault.{answer_of}
 use Rattle.dss_frame.specs.declared.fault.FeedFault.{FeedFault}
 use Rattle.dss_frame.specs.Reading.{View, fed, Stopped}
 use Rattle.dss_frame.specs.Walk.{walked_to, IsWalked}
-use Rattle.dss_frame.proofs.Scanning.{scanned_within, fed_left, stopped_again, stopped_by}
-use Rattle.dss_frame.proofs.Walking.{walked_before}
+use Rattle.dss_frame.proofs.Loops.Scan.{scanned_within, fed_left, stopped_again, stopped_by}
+use Rattle.dss_frame.proofs.Loops.Walk.{walked_before}
 use Rattle.dss_frame.proofs.reader.Reader.feed.Goals as goal
 
 pub returns-in-Some-clause-err : goal.returns-in-Some-clause-err
@@ -14,10 +14,10 @@ returns-in-Some-clause-err c =
 
 pub scan-requires : goal.scan-requires
 scan-requires c =
-    let begun : List ℕ = c.self.inside.begun.items in
-    let all : c.as_slice.result.now ≡ begun ++ c.args.piece.now = c.as_slice.ensures.value ∙ c.in_ok-extend_from_slice.ensures.items in
+    let bytes : List ℕ = c.self.inside.open.items in
+    let all : c.as_slice.result.now ≡ bytes ++ c.args.piece.now = c.as_slice.ensures.value ∙ c.in_ok-extend_from_slice.ensures.items in
     subst (λ (xs : List ℕ). IsWalked c.self.inside.walked xs) (sym all)
-    (subst (λ (n : ℕ). IsWalked n (begun ++ c.args.piece.now)) (sym c.self.invariant.1) (walked_before begun c.args.piece.now))
+    (subst (λ (n : ℕ). IsWalked n (bytes ++ c.args.piece.now)) (sym c.self.invariant.1) (walked_before bytes c.args.piece.now))
 
 pub invariant_of-self-2 : goal.invariant_of-self-2
 invariant_of-self-2 c =
@@ -31,7 +31,7 @@ returns-clause-ok c =
       limit = c.self.inside.limit;
       whole = c.self.inside.whole.items;
       position = c.self.inside.position;
-      «open» = c.self.inside.begun.items;
+      «open» = c.self.inside.open.items;
       fault = c.self.inside.fault;
     } in
     fed_left v c.args.piece.now c.as_slice.result.now c.keep_from.new.bytes.items c.scan.new.whole.items c.in-Ok.scan
@@ -51,7 +51,7 @@ returns-in-Some-fault-clause-err c =
       limit = c.self.inside.limit;
       whole = c.self.inside.whole.items;
       position = c.self.inside.position;
-      «open» = c.self.inside.begun.items;
+      «open» = c.self.inside.open.items;
       fault = c.self.inside.fault;
     } in
     let left = fed_left v c.args.piece.now c.as_slice.result.now c.keep_from.new.bytes.items c.scan.new.whole.items c.in-Ok.scan

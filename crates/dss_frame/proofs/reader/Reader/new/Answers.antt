@@ -1,5 +1,5 @@
 use Rattle.std.proofs.Common.{rules, sym}
-use Rattle.dss_frame.proofs.Walking.{walked_empty}
+use Rattle.dss_frame.proofs.Loops.Walk.{walked_empty}
 use Rattle.dss_frame.proofs.reader.Reader.new.Goals as goal
 
 pub invariant_of-result : goal.invariant_of-result

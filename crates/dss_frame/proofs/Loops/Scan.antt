@@ -1,0 +1,134 @@
+-- The scan over all bytes of the DSSs that have begun, one DSS after another.
+use Rattle.std.proofs.Common.{◌≡◌, ℕ, ◌+◌, ◌-◌, ◌≤◌, Bool, true, false, cond, List, [], ◌∷◌, ◌++◌, length, take, drop, Option, Some, None, refl, sym}
+use Rattle.std.proofs.Common.{ap, subst, ◌∙◌, arith}
+use Rattle.std.specs.Option.{option_map}
+use Rattle.std.proofs.lemmas.List.{length-drop, length-take, drop-drop, drop_all, take_rest}
+use Rattle.dss_frame.specs.declared.dss.Side.{Side}
+use Rattle.dss_frame.specs.declared.dss.Dss.{Dss}
+use Rattle.dss_frame.specs.declared.dss.Placed.{Placed}
+use Rattle.dss_frame.specs.declared.fault.StreamFault.{StreamFault}
+use Rattle.dss_frame.specs.declared.fault.StreamFault.TheVariants.{Frame, TooLong}
+use Rattle.dss_frame.specs.declared.segments.Extent.TheVariants.{Ends}
+use Rattle.dss_frame.specs.declared.step.Position.{Position}
+use Rattle.dss_frame.specs.declared.step.Step.{Step}
+use Rattle.dss_frame.specs.declared.step.Step.TheVariants.{Waits, Reads, Stops}
+use Rattle.dss_frame.specs.declared.scan.Scan.{Scan}
+use Rattle.dss_frame.specs.Segments.{extent_of, dss_of}
+use Rattle.dss_frame.specs.Kept.{IsWithin}
+use Rattle.dss_frame.specs.Fault.{answer_of}
+use Rattle.dss_frame.specs.Reading.{View, fed, Stopped, step_of, position_after, read_on, read_all}
+use Rattle.dss_frame.specs.Scan.{at_position, Scanned}
+use Rattle.link_ends.proofs.Lists.{all_push}
+use Rattle.dss_frame.proofs.OneDss.Judging.{whole_dss}
+use Rattle.dss_frame.proofs.OneDss.Whole.{ends_take, dss_size}
+use Rattle.dss_frame.proofs.Pieces.NextStep.{IsRead, is_read}
+use Rattle.dss_frame.proofs.Pieces.Pieces.{on_waits, all_reads, all_stops, on_ends, fed_stopped, fed_none}
+
+-- ---- reading goes on from there
+
+pub record ReadsOn (side : Side) (limit : ℕ) (bytes : List ℕ) (first here : Position) (old now : List Placed) (begins : ℕ) : Type 0 where
+  pub within : begins ≤ length bytes
+  pub same : read_all (at_position side limit here now (drop begins bytes)) ≡ read_all (at_position side limit first old bytes)
+
+-- what the code takes is the rest of the bytes
+pub step_at : (side : Side) (position : Position) (bytes : List ℕ) (begins : ℕ) (step : Step)
+    → step ≡ step_of side position (take (length bytes - begins) (drop begins bytes)) → step_of side position (drop begins bytes) ≡ step
+step_at side position bytes begins step e = sym (e ∙ ap (step_of side position) (take_rest bytes begins))
+
+pub read_at : (side : Side) (position : Position) (bytes : List ℕ) (begins count : ℕ)
+    → Reads count ≡ step_of side position (take (length bytes - begins) (drop begins bytes)) → IsRead side position (drop begins bytes) count
+read_at side position bytes begins count e = is_read side position (drop begins bytes) count (step_at side position bytes begins (Reads count) e)
+
+pub scanned_waits : (side : Side) (limit : ℕ) (bytes : List ℕ) (first here : Position) (old now : List Placed) (begins walked judged : ℕ)
+    → ReadsOn side limit bytes first here old now begins → step_of side here (drop begins bytes) ≡ Waits
+    → Scanned side limit first bytes old now (record { begins = begins; position = here; walked = walked; fault = None; judged = judged })
+scanned_waits side limit bytes first here old now begins walked judged h e = record {
+  within = h.within;
+  reads = sym (on_waits (length (drop begins bytes)) (at_position side limit here now (drop begins bytes)) e) ∙ h.same;
+}
+
+pub scanned_stops : (side : Side) (limit : ℕ) (bytes : List ℕ) (first here : Position) (old now : List Placed) (begins judged : ℕ) (fault : StreamFault)
+    → ReadsOn side limit bytes first here old now begins → step_of side here (drop begins bytes) ≡ Stops fault
+    → Scanned side limit first bytes old now (record { begins = length bytes; position = here; walked = 0; fault = Some fault; judged = judged })
+scanned_stops side limit bytes first here old now begins judged fault h e = record {
+  within = omega arith;
+  reads =
+      ap (λ (xs : List ℕ). record { side = side; limit = limit; whole = now; position = here; «open» = xs; fault =
+          Some fault }) (drop_all (length bytes) bytes (omega arith))
+      ∙ all_stops (at_position side limit here now (drop begins bytes)) fault e ∙ h.same;
+}
+
+pub reads_more : (side : Side) (limit : ℕ) (bytes : List ℕ) (first here : Position) (old now : List Placed) (begins n : ℕ) (d : Dss)
+    → ReadsOn side limit bytes first here old now begins → step_of side here (drop begins bytes) ≡ Reads n → d ≡ dss_of (take n (drop begins bytes))
+    → ReadsOn side limit bytes first (position_after limit here d n) old (now ++ record { at = here.at; dss = d } ∷ []) (begins + n)
+reads_more side limit bytes first here old now begins n d h e is =
+    let rest : List ℕ = drop begins bytes in
+    let read = is_read side here rest n e in
+    record {
+      within = omega (arith, h.within, read.within, length-drop begins bytes);
+      same =
+          ap (λ (xs : List ℕ). read_all (at_position side limit (position_after limit here d n) (now ++ record { at = here.at; dss =
+              d } ∷ []) xs)) (sym (drop-drop n begins bytes))
+          ∙ ap (λ (x : Dss). read_all (at_position side limit (position_after limit here x n) (now ++ record { at = here.at; dss = x } ∷ []) (drop n rest))) is
+          ∙ all_reads (at_position side limit here now rest) n e ∙ h.same;
+    }
+
+pub whole_part : (side : Side) (bytes : List ℕ) (n : ℕ) → extent_of side bytes ≡ Ends n → extent_of side (take n bytes) ≡ Ends (length (take n bytes))
+whole_part side bytes n e =
+    let whole = whole_dss side bytes n e in
+    let size : length (take n bytes) ≡ n = omega (arith, length-take n bytes, whole.within) in
+    ends_take side bytes n e ∙ ap (λ (k : ℕ). Ends k) (sym size)
+
+-- ---- what is kept of the sizes
+
+abbrev BodyFits : ℕ → Placed → Type 0
+BodyFits limit placed = length placed.dss.body ≤ limit
+
+room_within : (b : Bool) (room count limit : ℕ) → room ≤ limit → cond b (room - count) limit ≤ limit
+room_within true room count limit h = omega arith
+room_within false room count limit h = omega arith
+
+Keeps : View → View → Type 0
+Keeps v r = IsWithin v.limit v.whole v.position → IsWithin v.limit r.whole r.position
+
+on_within : (count : ℕ) (v : View) → IsWithin v.limit v.whole v.position → IsWithin v.limit (read_on count v).whole (read_on count v).position
+unfolding Keeps
+on_within =
+    on_ends Keeps (λ v h. h) (λ v r n step goes h.
+    let read = is_read v.side v.position v.open n step in
+    let d : Dss = dss_of (take n v.open) in
+    let size = dss_size (take n v.open) in
+    goes (record {
+      bodies = all_push (BodyFits v.limit) v.whole (record { at = v.position.at; dss =
+          d }) h.bodies (omega (arith, size, length-take n v.open, read.room, h.room));
+      room = room_within d.chained v.position.room n v.limit h.room;
+    })) (λ v fault step h. h)
+
+-- what a scan leaves is within the limit, where what it began with was
+pub scanned_within : (side : Side) (limit : ℕ) (position : Position) (bytes : List ℕ) (old new : List Placed) (s : Scan)
+    → Scanned side limit position bytes old new s → IsWithin limit old position → IsWithin limit new s.position
+scanned_within side limit position bytes old new s scanned h =
+    subst (λ (v : View). IsWithin limit v.whole v.position) (sym scanned.reads) (on_within (length bytes) (at_position side limit position old bytes) h)
+
+-- ---- a piece
+
+-- a fault is answered again
+pub stopped_by : (fault : StreamFault) (old new : View) (piece : List ℕ) → new ≡ fed old piece → new.fault ≡ Some fault
+    → Stopped (answer_of fault) old new piece
+stopped_by (Frame at why corr) old new piece is kept = (is, ap (option_map answer_of) kept)
+stopped_by (TooLong at corr) old new piece is kept = (is, ap (option_map answer_of) kept)
+
+pub stopped_again : (fault : StreamFault) (v : View) (piece : List ℕ) → v.fault ≡ Some fault → Stopped (answer_of fault) v v piece
+stopped_again fault v piece is = stopped_by fault v v piece (sym (fed_stopped v piece fault is)) is
+
+-- what a piece leaves, by the scan of all bytes that have begun, where the reader keeps the bytes that it left
+pub fed_left : (v : View) (piece bytes kept : List ℕ) (new : List Placed) (s : Scan) → v.fault ≡ None → bytes ≡ v.open ++ piece
+    → Scanned v.side v.limit v.position bytes v.whole new s → kept ≡ drop s.begins bytes
+    → record { side = v.side; limit = v.limit; whole = new; position = s.position; «open» = kept; fault = s.fault } ≡ fed v piece
+fed_left v piece bytes kept new s none joined h left =
+    ap (λ (xs : List ℕ). record { side = v.side; limit = v.limit; whole = new; position = s.position; «open» = xs; fault = s.fault }) left
+    ∙ h.reads
+    ∙ ap (λ (xs : List ℕ). read_all (at_position v.side v.limit v.position v.whole xs)) joined
+    ∙ ap (λ (o : Option StreamFault). read_all (record { side = v.side; limit = v.limit; whole = v.whole; position = v.position; «open» =
+        v.open ++ piece; fault = o })) (sym none)
+    ∙ sym (fed_none v piece none)
