@@ -4,3 +4,4 @@ pub mod Characters
 pub mod Trimming
 pub mod Padding
 pub mod WholeTables
+pub mod Spread

@@ -7,11 +7,11 @@ use Rattle.ddm_codepoints.specs.Character.{space}
 first_replaced : (count more byte : ℕ) → count ≡ suc more → slice_set (replicate count space) 0 byte ≡ byte ∷ replicate more space
 first_replaced count more byte e = rw e refl
 
-mapped : (f : ℕ → ℕ) (front : List ℕ) (byte : ℕ) → map f (front ++ byte ∷ []) ≡ map f front ++ f byte ∷ []
+pub mapped : (f : ℕ → ℕ) (front : List ℕ) (byte : ℕ) → map f (front ++ byte ∷ []) ≡ map f front ++ f byte ∷ []
 mapped f [] byte = refl
 mapped f (first ∷ front) byte = ap (λ rest. f first ∷ rest) (mapped f front byte)
 
-length_mapped : (f : ℕ → ℕ) (bytes : List ℕ) → length (map f bytes) ≡ length bytes
+pub length_mapped : (f : ℕ → ℕ) (bytes : List ℕ) → length (map f bytes) ≡ length bytes
 length_mapped f [] = refl
 length_mapped f (byte ∷ bytes) = ap suc (length_mapped f bytes)
 
