@@ -1,2 +1,3 @@
 pub mod Levels
 pub mod Short
+pub mod Commands

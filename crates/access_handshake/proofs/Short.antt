@@ -4,10 +4,11 @@ use Rattle.std.proofs.lemmas.List.{length-append}
 use Rattle.ddm_objects.specs.declared.fault.ObjFault.{ObjFault}
 use Rattle.ddm_objects.specs.Objects.{Member, short_object, long_object, canonical_object}
 use Rattle.ddm_objects.specs.Members.{find_of}
+use Rattle.ddm_codepoints.specs.CodePoint.{mgrlvlls, excsatrd}
 use Rattle.access_handshake.specs.declared.manager.ManagerLevel.{ManagerLevel}
 use Rattle.access_handshake.specs.declared.excsat.ExcsatAnswer.TheVariants.{Granted, TooLow}
 use Rattle.access_handshake.specs.Managers.{managers_of, granted_list, is_too_low}
-use Rattle.access_handshake.specs.Excsat.{mgrlvlls, server_names, excsatrd, mgrlvlrm, answer_to, excsat_answer, answer_object}
+use Rattle.access_handshake.specs.Excsat.{server_names, excsatrd_object, mgrlvlrm_object, answer_to, excsat_answer, answer_object}
 
 -- a header has at most eight bytes
 canonical_size : (code : ℕ) (bytes : List ℕ) → length (canonical_object code bytes) ≤ length bytes + 8
@@ -25,14 +26,14 @@ managers_size (a ∷ b ∷ []) = omega arith
 managers_size (a ∷ b ∷ c ∷ []) = omega arith
 managers_size (a ∷ b ∷ c ∷ d ∷ rest) = omega (arith, managers_size rest)
 
-excsatrd_size : (levels : List ℕ) → length (excsatrd levels) ≤ length levels + 37
-excsatrd_size levels = omega (arith, canonical_size 0x1443 (server_names ++ levels), length-append server_names levels)
+excsatrd_size : (levels : List ℕ) → length (excsatrd_object levels) ≤ length levels + 37
+excsatrd_size levels = omega (arith, canonical_size excsatrd (server_names ++ levels), length-append server_names levels)
 
 answer_size : (size : ℕ) (found : Result (Option Member) ObjFault) → ((object : Member) → found ≡ Ok (Some object) → length object.bytes + 4 ≤ size) → length (answer_object (answer_to found)) ≤ size + 64
 answer_size size (Ok (Some list)) within =
     let asked : List ManagerLevel = managers_of list.bytes in
     let levels : List ℕ = canonical_object mgrlvlls (granted_list asked) in
-    elim (is_too_low asked) as (λ b. length (answer_object (cond b (TooLow mgrlvlrm) (Granted (excsatrd levels)))) ≤ size + 64) [
+    elim (is_too_low asked) as (λ b. length (answer_object (cond b (TooLow mgrlvlrm_object) (Granted (excsatrd_object levels)))) ≤ size + 64) [
       | true ↦ omega arith
       | false ↦ omega (arith, within list refl, excsatrd_size levels, canonical_size mgrlvlls (granted_list asked), granted_size asked, managers_size list.bytes)
     ]

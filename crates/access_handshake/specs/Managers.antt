@@ -3,27 +3,8 @@
 use Rattle.std.specs.Prelude.{ℕ, min, Bool, false, ◌||◌, ◌==◌, nat_lt, if◌then◌else◌, List, [], ◌∷◌, ◌++◌, find, Option, None, Some}
 use Rattle.std.specs.List.{flat_map}
 use Rattle.byteorder.specs.Endian.{big_number, big_bytes}
+use Rattle.ddm_codepoints.specs.CodePoint.{agent, sqlam, rdb, secmgr, cmntcpip}
 use Rattle.access_handshake.specs.declared.manager.ManagerLevel.{ManagerLevel}
-
--- the code points of managers: DDM, volume 3, AGENT
-abbrev pub agent : ℕ
-agent = 0x1403
-
--- DDM, volume 3, SQLAM
-abbrev pub sqlam : ℕ
-sqlam = 0x2407
-
--- DDM, volume 3, RDB
-abbrev pub rdb : ℕ
-rdb = 0x240F
-
--- DDM, volume 3, SECMGR
-abbrev pub secmgr : ℕ
-secmgr = 0x1440
-
--- DDM, volume 3, CMNTCPIP
-abbrev pub cmntcpip : ℕ
-cmntcpip = 0x1474
 
 -- The managers that a list names, in order. DDM, volume 3, MGRLVLLS; that a rest of fewer than four bytes is passed
 -- over is this project's choice.

@@ -1,39 +1,17 @@
 ghost use Rattle.std.specs.Prelude.{◌≡◌, ◌+◌, ◌≤◌, ℕ, List, length, IfOk};
 ghost use Rattle.ddm_objects.specs.Members.{IsMembers};
 ghost use Rattle.access_handshake.specs.Managers.{managers_of};
-ghost use Rattle.access_handshake.specs.Excsat.{answer_to_levels, excsatrd, mgrlvlrm, excsat_answer, answer_object};
+ghost use Rattle.access_handshake.specs.Excsat.{answer_to_levels, excsatrd_object, mgrlvlrm_object, excsat_answer, answer_object};
 
-use crate::manager::{
-    LEVEL, ManagerLevel, SQLAM, granted_list, is_too_low, level_pair, managers_of,
-};
+use crate::manager::{LEVEL, ManagerLevel, granted_list, is_too_low, level_pair, managers_of};
 use crate::object::{object, put_object};
+use ddm_codepoints::code_point::{
+    EXCSATRD, MGRLVLLS, MGRLVLRM, SQLAM, SRVCLSNM, SRVNAM, SRVRLSLV, SVRCOD,
+};
+use ddm_codepoints::value::ERROR;
 use ddm_objects::{Builder, find, found_is_within};
 use link_ends::{NoMemory, Octets};
 use std::alloc::Global;
-
-/// The code point of MGRLVLRM, the reply that a manager's level doesn't do.
-const MGRLVLRM: u16 = 0x1210;
-
-/// The code point of SVRCOD, the severity code.
-const SVRCOD: u16 = 0x1149;
-
-/// The code point of SRVCLSNM, the server's class name.
-const SRVCLSNM: u16 = 0x1147;
-
-/// The code point of SRVRLSLV, the server's release level.
-const SRVRLSLV: u16 = 0x115A;
-
-/// The code point of SRVNAM, the server's name.
-const SRVNAM: u16 = 0x116D;
-
-/// The code point of MGRLVLLS, the list of managers' levels.
-const MGRLVLLS: u16 = 0x1404;
-
-/// The code point of EXCSATRD, the server's attributes.
-const EXCSATRD: u16 = 0x1443;
-
-/// The severity code of an error.
-const ERROR: [u8; 2] = [0, 8];
 
 /// DRDAGW in EBCDIC.
 const CLASS_NAME: [u8; 6] = [0xC4, 0xD9, 0xC4, 0xC1, 0xC7, 0xE6];
@@ -83,7 +61,7 @@ fn answer_levels(alloc: Global, list: &[u8]) -> Result<ExcsatAnswer, NoMemory>
 /// EXCSATRD: the gateway's names, and then these bytes.
 fn excsatrd(alloc: Global, levels: &[u8]) -> Result<Octets, NoMemory>
     requires { length levels.now ≤ 16777224 }
-    ensures { IfOk result (λ object. object ≡ excsatrd levels.now) }
+    ensures { IfOk result (λ object. object ≡ excsatrd_object levels.now) }
 {
     let mut builder = Builder::new(alloc);
     builder.begin(EXCSATRD)?;
@@ -97,7 +75,7 @@ fn excsatrd(alloc: Global, levels: &[u8]) -> Result<Octets, NoMemory>
 
 /// MGRLVLRM: the level of SQLAM that the gateway needs.
 fn mgrlvlrm(alloc: Global) -> Result<Octets, NoMemory>
-    ensures { IfOk result (λ object. object ≡ mgrlvlrm) }
+    ensures { IfOk result (λ object. object ≡ mgrlvlrm_object) }
 {
     let needed = ManagerLevel {
         code: SQLAM,
@@ -105,7 +83,7 @@ fn mgrlvlrm(alloc: Global) -> Result<Octets, NoMemory>
     };
     let mut builder = Builder::new(alloc);
     builder.begin(MGRLVLRM)?;
-    put_object(&mut builder, SVRCOD, &ERROR)?;
+    put_object(&mut builder, SVRCOD, &ERROR.to_be_bytes())?;
     put_object(&mut builder, MGRLVLLS, &level_pair(needed))?;
     builder.end()?;
     Ok(builder.finish())

@@ -2,29 +2,15 @@ ghost use Rattle.std.specs.Prelude.{◌≡◌, ◌*◌, ◌≤◌, ◌==◌, fin
 ghost use Rattle.access_handshake.specs.Managers.{managers_of, level_pair, greatest_level, granted, granted_list, is_too_low};
 
 use byteorder::{BigEndian, ByteOrder};
+use ddm_codepoints::code_point::{AGENT, CMNTCPIP, RDB, SECMGR, SQLAM};
 use link_ends::{NoMemory, Octets};
 use std::alloc::Global;
-
-/// The code point of AGENT, the agent.
-pub(crate) const AGENT: u16 = 0x1403;
-
-/// The code point of SQLAM, the SQL application manager.
-pub(crate) const SQLAM: u16 = 0x2407;
-
-/// The code point of RDB, the relational database.
-pub(crate) const RDB: u16 = 0x240F;
-
-/// The code point of SECMGR, the security manager.
-pub(crate) const SECMGR: u16 = 0x1440;
-
-/// The code point of CMNTCPIP, the TCP/IP communication manager.
-pub(crate) const CMNTCPIP: u16 = 0x1474;
 
 /// The level that the gateway has of AGENT, SQLAM, RDB and SECMGR, and needs of SQLAM.
 pub(crate) const LEVEL: u16 = 7;
 
 /// The level that the gateway has of CMNTCPIP.
-const CMNTCPIP_LEVEL: u16 = 5;
+pub(crate) const CMNTCPIP_LEVEL: u16 = 5;
 
 /// How many bytes a manager and its level take.
 const PAIR: usize = 4;

@@ -1,6 +1,6 @@
 ghost use Rattle.std.specs.Prelude.{◌≡◌, ◌+◌, ◌<◌, ◌≤◌, length, IfOk, OnOk};
 ghost use Rattle.ddm_objects.specs.Objects.{canonical_object};
-ghost use Rattle.ddm_objects.specs.Building.{building_size, after_put};
+ghost use Rattle.ddm_objects.specs.Builder.{building_size, after_put};
 
 use ddm_objects::Builder;
 use link_ends::{NoMemory, Octets};
