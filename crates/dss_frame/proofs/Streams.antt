@@ -6,3 +6,4 @@ pub mod Written
 pub mod Told
 pub mod FaultIsTold
 pub mod GoesOn
+pub mod Held

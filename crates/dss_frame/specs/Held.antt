@@ -1,9 +1,11 @@
 -- How many bytes a reader holds, told by the places of its view. No standard speaks of it: this is this project's own.
-use Rattle.std.specs.Prelude.{ℕ, ◌-◌, List, [], ◌∷◌, length, Option, Some, None}
+use Rattle.std.specs.Prelude.{◌≡◌, ℕ, ◌-◌, List, [], ◌∷◌, map, length, Option, Some, None}
+use Rattle.dss_frame.specs.declared.dss.Side.{Side}
 use Rattle.dss_frame.specs.declared.dss.Placed.{Placed}
 use Rattle.dss_frame.specs.declared.fault.StreamFault.{StreamFault}
 use Rattle.dss_frame.specs.Fault.{place_of, shown_by}
 use Rattle.dss_frame.specs.Reading.{View, further_on}
+use Rattle.dss_frame.specs.Spelling.{Spelled, Begins}
 
 -- the place of the first of these DSSs, or with none of them this one
 abbrev pub first_place : List Placed → ℕ → ℕ
@@ -20,3 +22,11 @@ read_behind begins bytes (Some fault) = further_on (place_of fault - begins) (sh
 abbrev pub held_of : View → ℕ
 held_of v =
     further_on (v.position.at - first_place v.whole v.position.at) (read_behind v.position.at v.open v.fault)
+
+-- The bytes are spellings of the DSSs that were taken, and then what the reader holds, all of it.
+pub record HoldsRest (side : Side) (taken : List Placed) (v : View) (bytes : List ℕ) : Type 0 where
+  pub spelled : List Spelled
+  pub rest : List ℕ
+  pub begins : Begins side spelled rest bytes
+  pub are : map (λ s. s.dss) spelled ≡ map (λ p. p.dss) taken
+  pub held : held_of v ≡ length rest

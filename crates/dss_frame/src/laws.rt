@@ -2,7 +2,7 @@
 
 ghost use Rattle.std.specs.Prelude.{◌≡◌, ℕ, ◌++◌, List};
 ghost use Rattle.dss_frame.specs.declared.dss.Placed.{Placed};
-ghost use Rattle.dss_frame.specs.declared.dss.Side.{Side as OfSide};
+ghost use Rattle.dss_frame.specs.declared.dss.Side.{Side};
 ghost use Rattle.dss_frame.specs.Reading.{View, start, fed, behind};
 ghost use Rattle.dss_frame.specs.Calls.{Call, after_calls, taken_by, fed_by};
 
@@ -19,6 +19,6 @@ pub fn what_was_read_stays()
 /// Whatever pieces a reader is fed, and whenever DSSs are taken in between: those that were taken and those that are left
 /// are what it reads of all bytes in one piece, and so are the bytes that it awaits more of and its fault.
 pub fn calls_read_as_one()
-    ensures { (side : OfSide) (limit : ℕ) (calls : List Call)
+    ensures { (side : Side) (limit : ℕ) (calls : List Call)
         → behind (taken_by (start side limit) calls) (after_calls (start side limit) calls) ≡ fed (start side limit) (fed_by calls) }
 {}

@@ -24,7 +24,7 @@ pub use spelling_laws::{
 pub use stream_laws::{
     bad_is_found, beyond_is_found, beyond_is_told, each_stands_at_its_place, fault_has_its_number,
     fault_is_the_first, nothing_mends_it, read_is_a_stream, stream_is_read, streams_are_one,
-    what_is_not_bad_goes_on, what_is_written_is_read,
+    what_is_held_follows, what_is_not_bad_goes_on, what_is_written_is_read,
 };
 pub use writer::write_dss;
 
