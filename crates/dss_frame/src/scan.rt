@@ -3,8 +3,8 @@ ghost use Rattle.dss_frame.specs.Scan.{Scanned, Extends};
 ghost use Rattle.dss_frame.specs.Walk.{walked_to, IsWalked};
 
 use crate::dss::{Placed, Side};
-use crate::segments::dss_of;
 use crate::fault::StreamFault;
+use crate::segments::dss_of;
 use crate::step::{Position, Step};
 use bytes::BytesMut;
 use link_ends::NoMemory;

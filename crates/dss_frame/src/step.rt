@@ -3,8 +3,8 @@ ghost use Rattle.dss_frame.specs.Reading.{further_on, number_for, too_long, step
 ghost use Rattle.dss_frame.specs.Walk.{walked_to, IsWalked, ReadsBehind};
 
 use crate::dss::{Dss, Side};
-use crate::segments::{Extent, judge};
 use crate::fault::StreamFault;
+use crate::segments::{Extent, judge};
 use byteorder::{BigEndian, ByteOrder};
 
 /// How many bytes of a DSS have come where its correlation number has.

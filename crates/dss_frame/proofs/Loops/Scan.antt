@@ -53,8 +53,15 @@ pub scanned_stops : (side : Side) (limit : ℕ) (bytes : List ℕ) (first here :
 scanned_stops side limit bytes first here old now begins judged fault h e = record {
   within = omega arith;
   reads =
-      ap (λ (xs : List ℕ). record { side = side; limit = limit; whole = now; position = here; «open» = xs; fault =
-          Some fault }) (drop_all (length bytes) bytes (omega arith))
+      ap (λ (xs : List ℕ). record {
+        side = side;
+        limit = limit;
+        whole = now;
+        position = here;
+        «open» = xs;
+        fault =
+            Some fault;
+      }) (drop_all (length bytes) bytes (omega arith))
       ∙ all_stops (at_position side limit here now (drop begins bytes)) fault e ∙ h.same;
 }
 
@@ -67,8 +74,11 @@ reads_more side limit bytes first here old now begins n d h e is =
     record {
       within = omega (arith, h.within, read.within, length-drop begins bytes);
       same =
-          ap (λ (xs : List ℕ). read_all (at_position side limit (position_after limit here d n) (now ++ record { at = here.at; dss =
-              d } ∷ []) xs)) (sym (drop-drop n begins bytes))
+          ap (λ (xs : List ℕ). read_all (at_position side limit (position_after limit here d n) (now ++ record {
+            at = here.at;
+            dss =
+                d;
+          } ∷ []) xs)) (sym (drop-drop n begins bytes))
           ∙ ap (λ (x : Dss). read_all (at_position side limit (position_after limit here x n) (now ++ record { at = here.at; dss = x } ∷ []) (drop n rest))) is
           ∙ all_reads (at_position side limit here now rest) n e ∙ h.same;
     }
@@ -99,8 +109,11 @@ on_within =
     let d : Dss = dss_of (take n v.open) in
     let size = dss_size (take n v.open) in
     goes (record {
-      bodies = all_push (BodyFits v.limit) v.whole (record { at = v.position.at; dss =
-          d }) h.bodies (omega (arith, size, length-take n v.open, read.room, h.room));
+      bodies = all_push (BodyFits v.limit) v.whole (record {
+        at = v.position.at;
+        dss =
+            d;
+      }) h.bodies (omega (arith, size, length-take n v.open, read.room, h.room));
       room = room_within d.chained v.position.room n v.limit h.room;
     })) (λ v fault step h. h)
 
@@ -129,6 +142,13 @@ fed_left v piece bytes kept new s none joined h left =
     ap (λ (xs : List ℕ). record { side = v.side; limit = v.limit; whole = new; position = s.position; «open» = xs; fault = s.fault }) left
     ∙ h.reads
     ∙ ap (λ (xs : List ℕ). read_all (at_position v.side v.limit v.position v.whole xs)) joined
-    ∙ ap (λ (o : Option StreamFault). read_all (record { side = v.side; limit = v.limit; whole = v.whole; position = v.position; «open» =
-        v.open ++ piece; fault = o })) (sym none)
+    ∙ ap (λ (o : Option StreamFault). read_all (record {
+      side = v.side;
+      limit = v.limit;
+      whole = v.whole;
+      position = v.position;
+      «open» =
+          v.open ++ piece;
+      fault = o;
+    })) (sym none)
     ∙ sym (fed_none v piece none)

@@ -98,8 +98,11 @@ pub stops_cut : (offset : ℕ) (rest : List ℕ) (extent : Extent) (walked : ℕ
     → length rest < segment_size rest
     → StopsAs offset extent Awaits walked
 stops_cut offset rest extent walked h long least cut =
-    record { extent_is = sym (extent_cut h.count offset rest long least cut) ∙ h.same; walked_is = sym (walked_cut h.count offset rest long least cut)
-        ∙ h.there }
+    record {
+      extent_is = sym (extent_cut h.count offset rest long least cut) ∙ h.same;
+      walked_is = sym (walked_cut h.count offset rest long least cut)
+          ∙ h.there;
+    }
 
 pub stops_last : (offset : ℕ) (rest : List ℕ) (extent : Extent) (walked : ℕ) → ComesTo offset rest extent walked → IsWhole rest → continues rest ≡ false
     → StopsAs offset extent (Ends (offset + segment_size rest)) walked
@@ -154,7 +157,7 @@ passes_on offset walked bytes more extent place w p =
       comes_to = subst (λ (n : ℕ). ComesTo walked (drop n (bytes ++ more)) extent place) split
           (subst (λ (xs : List ℕ). ComesTo walked xs extent place)
           (ap (drop (walked - (offset + size))) (sym (drop-append-le size bytes more w.there))
-              ∙ drop-drop (walked - (offset + size)) size (bytes ++ more)) p.comes_to);
+          ∙ drop-drop (walked - (offset + size)) size (bytes ++ more)) p.comes_to);
     }
 
 passes : (count offset : ℕ) (bytes more : List ℕ) (extent : Extent) (place : ℕ) → ComesTo offset (bytes ++ more) extent place
@@ -168,7 +171,7 @@ passes (suc count) offset bytes more extent place h =
       | Goes w goes ↦
           subst (λ (n : ℕ). Passes offset n bytes more extent place) (sym (walked_goes count offset bytes w goes))
           (passes_on offset _ bytes more extent place w (passes count (offset + segment_size bytes) (drop (segment_size bytes) bytes) more extent place
-              (comes_next offset bytes more extent place h w goes)))
+          (comes_next offset bytes more extent place h w goes)))
       | Last w last ↦ stays offset _ bytes more extent place h (walked_last (suc count) offset bytes w last)
     ]
 
@@ -276,7 +279,7 @@ walks_on bytes offset size h is w more =
       within = omega (arith, h.within, w.there, length-drop offset bytes);
       comes_to = subst (λ (n : ℕ). ComesTo (offset + n) (drop (offset + n) bytes) extent (walked_to bytes)) (sym is)
           (subst (λ (xs : List ℕ). ComesTo (offset + segment_size rest) xs extent (walked_to bytes)) (drop-drop (segment_size rest) offset bytes)
-              (comes_on offset rest extent (walked_to bytes) h.comes_to w more));
+          (comes_on offset rest extent (walked_to bytes) h.comes_to w more));
     }
 
 pub part_is : (rest segment : List ℕ) (skip size : ℕ) → segment ≡ take size rest → size ≡ segment_size rest

@@ -111,7 +111,7 @@ segments_fail (suc count) offset bytes at why e =
       | Partial long least cut ↦ absurd (cc (extent_cut (suc count) offset bytes long least cut))
       | Goes w goes ↦
           let h = segments_fail count (offset + segment_size bytes) (drop (segment_size bytes) bytes) at why (sym (extent_goes count offset bytes w goes)
-              ∙ e) in
+          ∙ e) in
           let len = length-drop (segment_size bytes) bytes in
           (omega arith, omega arith, λ _. omega arith)
       | Last w last ↦ absurd (cc (extent_last count offset bytes w last))

@@ -87,7 +87,7 @@ format_parts d =
     let g = flag_is d.go_on 32 in
     let s = flag_is d.same 16 in
     parts_of_sum (flag d.chained 1) (flag d.go_on 1) (flag d.same 1) (kind_number d.kind) (format_byte d) c.1 g.1 s.1 (number_small d.kind)
-        (omega (arith, c.0, g.0, s.0))
+    (omega (arith, c.0, g.0, s.0))
 
 -- what the format byte of a DSS says
 pub record Says (d : Dss) (byte : ℕ) : Type 0 where

@@ -16,7 +16,7 @@ use Rattle.dss_frame.proofs.OneDss.FirstSegment.{IsWhole, after_whole, extent_wh
 
 pub body_next : (count skip : ℕ) (bytes : List ℕ)
     → body_of (suc count) skip bytes ≡ drop skip (take (segment_size bytes) bytes) ++ cond (continues bytes)
-        (body_of count 2 (drop (segment_size bytes) bytes)) []
+    (body_of count 2 (drop (segment_size bytes) bytes)) []
 unfolding body_of
 body_next count skip bytes = refl
 
@@ -37,7 +37,7 @@ segment_read count offset size more part rest len least lt =
     let f = field_of size more (part ++ rest) lt in
     let front = front_length size more part lt len in
     let total : length bytes ≡ size + length rest = ap length (segment_parts size more part rest) ∙ length-append (segment_length size more ++ part) rest
-        ∙ ap (λ (n : ℕ). n + length rest) front in
+    ∙ ap (λ (n : ℕ). n + length rest) front in
     let after : drop size bytes ≡ rest = ap (drop size) (segment_parts size more part rest) ∙ drop_at (segment_length size more ++ part) rest size front in
     let w : IsWhole bytes = record { long = omega (arith, total); least = omega (arith, f.size); there = omega (arith, total, f.size) } in
     extent_whole count offset bytes w
@@ -52,7 +52,7 @@ segment_body count skip size more part rest len lt =
     let f = field_of size more (part ++ rest) lt in
     let front = front_length size more part lt len in
     let before : take size bytes ≡ segment_length size more ++ part = ap (take size) (segment_parts size more part rest)
-        ∙ take_at (segment_length size more ++ part) rest size front in
+    ∙ take_at (segment_length size more ++ part) rest size front in
     let after : drop size bytes ≡ rest = ap (drop size) (segment_parts size more part rest) ∙ drop_at (segment_length size more ++ part) rest size front in
     body_next count skip bytes
     ∙ ap (λ (n : ℕ). drop skip (take n bytes) ++ cond (continues bytes) (body_of count 2 (drop n bytes)) []) f.size
@@ -84,7 +84,7 @@ further_read (part ∷ parts) (suc count) offset more fits fuel =
     let p = fits.0 in
     let size = 2 + length part in
     let ends : offset + size + length (further_spelling parts) ≡ offset + length (further_spelling (part ∷ parts)) =
-        omega (arith, segment_long (is_some_part parts) part (further_spelling parts) p) in
+    omega (arith, segment_long (is_some_part parts) part (further_spelling parts) p) in
     cond-true (is_some_part (part ∷ parts)) _ _ (lt-ltb 0 (length (part ∷ parts)) (omega arith))
     ∙ ap (segments_extent (suc count) offset) (segment_append size (is_some_part parts) part (further_spelling parts) more)
     ∙ segment_read count offset size (is_some_part parts) part (further_spelling parts ++ more) refl (omega (arith, p.some)) (omega (arith, p.fits))
@@ -103,7 +103,7 @@ further_body (part ∷ parts) (suc count) more fits fuel =
     ∙ ap (body_of (suc count) 2) (segment_append size (is_some_part parts) part (further_spelling parts) more)
     ∙ segment_body count 2 size (is_some_part parts) part (further_spelling parts ++ more) refl (omega (arith, p.fits))
     ∙ ap (λ (xs : List ℕ). xs ++ cond (is_some_part parts) (body_of count 2 (further_spelling parts ++ more)) [])
-        (drop_at (segment_length size (is_some_part parts)) part 2 f.two)
+    (drop_at (segment_length size (is_some_part parts)) part 2 f.two)
     ∙ ap (λ (xs : List ℕ). part ++ xs) (further_body parts count more fits.1 (omega arith))
 
 pub parts_within : (parts : List (List ℕ)) → AllByRecursion IsPart parts → length parts ≤ length (further_spelling parts)
@@ -126,7 +126,7 @@ open_read (part ∷ parts) (suc count) offset rest fits fuel came low =
     let p = fits.0 in
     let size = 2 + length part in
     let ends : offset + size + length (open_spelling parts) ≡ offset + length (open_spelling (part ∷ parts)) =
-        omega (arith, segment_long true part (open_spelling parts) p) in
+    omega (arith, segment_long true part (open_spelling parts) p) in
     ap (segments_extent (suc count) offset) (segment_append size true part (open_spelling parts) rest)
     ∙ segment_read count offset size true part (open_spelling parts ++ rest) refl (omega (arith, p.some)) (omega (arith, p.fits))
     ∙ open_read parts count (offset + size) rest fits.1 (omega arith) came low

@@ -39,7 +39,7 @@ further_fails side bytes offset bad =
     ap (extent_of side) bad.bytes_are
     ∙ first_read side bad.dss bad.first true rest bad.goes_on.is_dss bad.goes_on.first_fits
     ∙ open_read bad.parts count (0 + (6 + length bad.first)) bad.rest bad.goes_on.parts_fit (omega (arith, length-append before bad.rest)) bad.low.came
-        bad.low.short
+    bad.low.short
     ∙ ap (λ (n : ℕ). Fails n Continue) (omega (arith, bad.there))
 
 at_offset : (offset there : ℕ) (why : Why) → offset ≡ there → Fails there why ≡ Fails offset why

@@ -33,7 +33,7 @@ parts_body zero body all = sym (nil_from_length body (omega arith))
 parts_body (suc count) body all =
     let rest = drop further_room body in
     ap (λ (xs : List ℕ). take further_room body ++ xs) (parts_body count rest (omega (arith, length-drop further_room body)))
-        ∙ take-append-drop further_room body
+    ∙ take-append-drop further_room body
 
 parts_fit : (count : ℕ) (body : List ℕ) → 32765 * count < length body + 32765 → AllByRecursion IsPart (parts count body)
 unfolding parts

@@ -25,7 +25,7 @@ one_spelling side d e a b x y s t same =
 pub awaited_none : (side : Side) (bytes : List ℕ) (d : Dss) (n : ℕ) → extent_of side bytes ≡ Awaits → Spells side d (take n bytes) → ⊥
 awaited_none side bytes d n e s =
     let ends : Ends (length (take n bytes)) ≡ Awaits = sym (spelled_read side d (take n bytes) (drop n bytes) s)
-        ∙ ap (extent_of side) (take-append-drop n bytes) ∙ e in
+    ∙ ap (extent_of side) (take-append-drop n bytes) ∙ e in
     cc
 
 pub read_within : (side : Side) (bytes : List ℕ) (count : ℕ) → All (λ byte. byte < 256) bytes → extent_of side bytes ≡ Ends count → count ≤ length bytes

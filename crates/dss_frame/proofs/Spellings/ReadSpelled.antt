@@ -93,7 +93,7 @@ after_ends (suc count) offset true bytes end fits e =
     let w = (segments_end (suc count) offset bytes end e).whole in
     let size = segment_size bytes in
     let r = after_ends count (offset + size) (continues bytes) (drop size bytes) end (AreBytes-drop size bytes fits) (sym (extent_whole count offset bytes w)
-        ∙ e) in
+    ∙ e) in
     let part = part_of bytes in
     let p = is_part bytes w in
     let len = part_length bytes w in
@@ -134,7 +134,7 @@ after_fails (suc count) offset bytes end why fits e =
       | Goes w goes ↦
           let size = segment_size bytes in
           let r = after_fails count (offset + size) (drop size bytes) end why (AreBytes-drop size bytes fits) (sym (extent_goes count offset bytes w goes)
-              ∙ e) in
+          ∙ e) in
           let part = part_of bytes in
           let p = is_part bytes w in
           let len = part_length bytes w in
@@ -207,5 +207,5 @@ first_back side (a ∷ b ∷ c ∷ f ∷ k ∷ l ∷ rest) body fits h w =
           ∙ ap (λ (x : ℕ). a ∷ b ∷ c ∷ x ∷ (to_be_bytes w16 (256 * k + l) ++ (first ++ after))) (sym says.again)
           ∙ ap (λ (x : ℕ). a ∷ b ∷ x ∷ format_byte d ∷ (to_be_bytes w16 (256 * k + l) ++ (first ++ after))) third
           ∙ ap (λ (xs : List ℕ). xs ++ (208 ∷ format_byte d ∷ (to_be_bytes w16 (256 * k + l) ++ (first ++ after))))
-              (sym (length_bytes a b (6 + length first) (byte_at bytes fits 0) (byte_at bytes fits 1) len));
+          (sym (length_bytes a b (6 + length first) (byte_at bytes fits 0) (byte_at bytes fits 1) len));
     }

@@ -73,7 +73,7 @@ spelled_body side d bytes s =
     ∙ ap (λ (n : ℕ). body_of n 6 text) count
     ∙ segment_body (5 + (length s.first + length rest)) 6 size more (first_part d s.first) rest (first_length d s.first) (omega (arith, s.first_fits))
     ∙ ap (λ (xs : List ℕ). s.first ++ xs) (further_body s.parts (5 + (length s.first + length rest)) [] s.parts_fit
-        (omega (arith, length-append (further_spelling s.parts) [])))
+    (omega (arith, length-append (further_spelling s.parts) [])))
     ∙ sym s.body
 
 pub spelled_dss : (side : Side) (d : Dss) (bytes : List ℕ) → Spells side d bytes → dss_of bytes ≡ d

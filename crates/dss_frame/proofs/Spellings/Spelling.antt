@@ -28,7 +28,7 @@ same_test k m e =
 -- the next further segment, and those after it
 pub further-more : (rest : List ℕ) → 0 < length rest → further_segments rest
     ≡ segment_length (2 + length (take further_room rest)) (ltb 0 (length (drop further_room rest))) ++
-        (take further_room rest ++ further_segments (drop further_room rest))
+    (take further_room rest ++ further_segments (drop further_room rest))
 unfolding further
 further-more rest some =
     let left = length (drop further_room rest) in
@@ -36,7 +36,7 @@ further-more rest some =
     let e : further_count (length rest) ≡ suc k = omega (arith, length-drop further_room rest) in
     ap (λ (n : ℕ). further n rest) e
     ∙ ap (λ (b : Bool). segment_length (2 + length (take further_room rest)) b ++ (take further_room rest ++ further k (drop further_room rest)))
-        (same_test k left refl)
+    (same_test k left refl)
 
 pub nonempty : (m : ℕ) (b : Bool) → b ≡ eqb m 0 → b ≡ false → 0 < m
 nonempty m b e f = grind (arith, nat_tests)
@@ -59,9 +59,11 @@ pub wrote_first : (d : Dss) (old headed out part rest : List ℕ) (continues : B
 wrote_first d old headed out part rest continues p r t a b =
     let head = header d (6 + length part) continues in
     let more : continues ≡ ltb 0 (length rest) = t ∙ some_left (length rest) in
-    let all : canonical d ≡ head ++ (part ++ further_segments rest) = rw (more, p, r) (canonical-is d) in
-    (rw (b, a) (Extends-append old (old ++ head) part (Extends-append old old head (Extends-same old))), wrote_part old headed out head part
-        (further_segments rest) (canonical d) a b all)
+    let all : canonical d ≡ head ++ (part ++ further_segments rest) = rw (more, p, r) (canonical-is d) in (
+      rw (b, a) (Extends-append old (old ++ head) part (Extends-append old old head (Extends-same old))),
+      wrote_part old headed out head part
+          (further_segments rest) (canonical d) a b all,
+    )
 
 -- a further segment was written
 pub wrote_further : (first old headed out part rest after all : List ℕ) (continues : Bool) → 0 < length rest → part ≡ take further_room rest
@@ -72,9 +74,11 @@ pub wrote_further : (first old headed out part rest after all : List ℕ) (conti
 wrote_further first old headed out part rest after all continues some p r t a b kept so_far =
     let head = segment_length (2 + length part) continues in
     let more : continues ≡ ltb 0 (length after) = t ∙ some_left (length after) in
-    let next : further_segments rest ≡ head ++ (part ++ further_segments after) = rw (more, p, r) (further-more rest some) in
-    (rw (b, a) (Extends-append first (old ++ head) part (Extends-append first old head kept)), wrote_part old headed out head part (further_segments after)
-        (further_segments rest) a b next ∙ so_far)
+    let next : further_segments rest ≡ head ++ (part ++ further_segments after) = rw (more, p, r) (further-more rest some) in (
+      rw (b, a) (Extends-append first (old ++ head) part (Extends-append first old head kept)),
+      wrote_part old headed out head part (further_segments after)
+          (further_segments rest) a b next ∙ so_far,
+    )
 
 pub wrote_all : (out rest all : List ℕ) → length rest ≡ 0 → out ++ further_segments rest ≡ all → out ≡ all
 wrote_all out rest all none so_far = sym (append-nil out) ∙ ap (λ (xs : List ℕ). out ++ xs) (sym (further-nil rest none)) ∙ so_far

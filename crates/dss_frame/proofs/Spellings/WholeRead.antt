@@ -53,7 +53,7 @@ begins_with side bytes count fits e =
     let most = length bytes - 1 in
     let walk : segments_extent (suc most) 0 bytes ≡ Ends count = ap (λ (n : ℕ). segments_extent n 0 bytes) (omega (arith, w.least, w.within)) ∙ w.walk in
     let r = after_ends most (0 + size) (continues bytes) (drop size bytes) count (AreBytes-drop size bytes fits) (sym (extent_whole most 0 bytes w.first)
-        ∙ walk) in
+    ∙ walk) in
     joined side bytes count r (first_back side bytes (first_of_bytes bytes ++ flat_map (λ part. part) r.parts) fits w.header w.first)
 
 pub ends_spelled : (side : Side) (bytes : List ℕ) (count : ℕ) → AreBytes bytes → extent_of side bytes ≡ Ends count

@@ -137,7 +137,7 @@ one_more v r count bytes e room within h =
       fits = λ before least have.
           let there : before + count ≤ v.limit = omega arith in
           let later = h.fits (if d.chained then before + count else 0) (chain_fits d.chained v.limit before count there)
-              (room_after d.chained v.position.room v.limit before count have there) in
+          (room_after d.chained v.position.room v.limit before count have there) in
           subst (λ (n : ℕ). (before + n ≤ v.limit) × Fits v.limit (if d.chained then before + n else 0) h.spelled) (sym len) (there, later);
       last = h.last;
     }
@@ -195,7 +195,7 @@ read_of side limit bytes bytes_fit =
     let first = first_position limit in
     let fits : Fits limit 0 h.spelled = h.fits 0 (omega arith) (omega arith) in
     let at : r.position.at ≡ further_on 0 (length (all_bytes h.spelled)) = ap (λ (p : Position). p.at) h.position
-        ∙ place_on limit first h.spelled (omega arith) in
+    ∙ place_on limit first h.spelled (omega arith) in
     record {
       spelled = h.spelled;
       rest = h.rest;

@@ -22,13 +22,15 @@ tells_too_long : (side : Side) (limit : ℕ) (bytes : List ℕ) (h : Read side l
     (r_fault : (read side limit bytes).fault ≡ Some (too_long (read side limit bytes).position h.rest))
     → TellsTooLong (read side limit bytes) (length (all_bytes h.spelled) + (read side limit bytes).position.room)
 tells_too_long side limit bytes h fault =
-    let r = read side limit bytes in
-    (number_for r.position h.rest r.position.room, fault
-        ∙ ap (λ (at : ℕ). Some (TooLong at (number_for r.position h.rest r.position.room))) (h.place r.position.room))
+    let r = read side limit bytes in (
+      number_for r.position h.rest r.position.room,
+      fault
+          ∙ ap (λ (at : ℕ). Some (TooLong at (number_for r.position h.rest r.position.room))) (h.place r.position.room),
+    )
 
 tells_frame : (side : Side) (limit : ℕ) (bytes : List ℕ) (h : Read side limit bytes (read side limit bytes)) (offset : ℕ) (why : Why)
     → (read side limit bytes).fault ≡ Some (Frame (further_on (read side limit bytes).position.at offset) why
-        (number_for (read side limit bytes).position h.rest offset))
+    (number_for (read side limit bytes).position h.rest offset))
     → TellsFrame (read side limit bytes) (length (all_bytes h.spelled) + offset) why
 tells_frame side limit bytes h offset why fault =
     let r = read side limit bytes in
@@ -50,15 +52,20 @@ bad_here side limit bytes h place offset why e there =
       | Waiting none left waits room ↦ absurd (cc)
       | Long fault x is past within ↦
           let low : r.position.room ≤ offset = subst (IsPast r.position.room h.rest) (sym is ∙ e) past in
-          inr (length (all_bytes h.spelled) + r.position.room, omega arith, long_is_beyond side limit bytes r h x is past within, tells_too_long side limit
-              bytes h fault)
+          inr (
+            length (all_bytes h.spelled) + r.position.room,
+            omega arith,
+            long_is_beyond side limit bytes r h x is past within,
+            tells_too_long side limit
+                bytes h fault,
+          )
       | Wrong other reason fault is room ↦
           let same_offset : other ≡ offset = cc in
           let same_why : reason ≡ why = cc in
           let t = tells_frame side limit bytes h other reason fault in
           let same_place : length (all_bytes h.spelled) + other ≡ place = omega arith in
           inl (subst (λ (p : ℕ). TellsFrame (read side limit bytes) p why) same_place
-              (subst (TellsFrame (read side limit bytes) (length (all_bytes h.spelled) + other)) same_why t))
+          (subst (TellsFrame (read side limit bytes) (length (all_bytes h.spelled) + other)) same_why t))
     ]
 
 -- it stopped in a DSS that is whole
@@ -69,16 +76,20 @@ stopped_within side limit bytes h count e =
     elim h.last [
       | Waiting none left waits room ↦ absurd (cc)
       | Long fault x is past within ↦
-          let low : r.position.room < count = subst (IsPast r.position.room h.rest) (sym is ∙ e) past in
-          (length (all_bytes h.spelled) + r.position.room, omega arith, long_is_beyond side limit bytes r h x is past within, tells_too_long side limit bytes
-              h fault)
+          let low : r.position.room < count = subst (IsPast r.position.room h.rest) (sym is ∙ e) past in (
+            length (all_bytes h.spelled) + r.position.room,
+            omega arith,
+            long_is_beyond side limit bytes r h x is past within,
+            tells_too_long side limit bytes
+                h fault,
+          )
       | Wrong other reason fault is room ↦ absurd (cc)
     ]
 
 bad_behind : (side : Side) (limit : ℕ) (bytes : List ℕ) (h : Read side limit bytes (read side limit bytes)) (place offset : ℕ) (why : Why) (zs : List Spelled)
     (rest : List ℕ)
     → AllByRecursion (IsSpelled side) zs → h.rest ≡ all_bytes zs ++ rest → extent_of side rest ≡ Fails offset why
-        → place ≡ length (all_bytes h.spelled) + (length (all_bytes zs) + offset)
+    → place ≡ length (all_bytes h.spelled) + (length (all_bytes zs) + offset)
     → BadTold side limit bytes place why
 bad_behind side limit bytes h place offset why [] rest each e fails there =
     bad_here side limit bytes h place offset why (ap (extent_of side) e ∙ fails) (omega arith)
@@ -90,7 +101,7 @@ bad_behind side limit bytes h place offset why (z ∷ zs) rest each e fails ther
 split_length : (xs ys zs : List Spelled) → xs ≡ ys ++ zs → length (all_bytes xs) ≡ length (all_bytes ys) + length (all_bytes zs)
 split_length xs ys zs e =
     ap (λ (ss : List Spelled). length (all_bytes ss)) e ∙ ap length (flat_map-append (λ (s : Spelled). s.bytes) ys zs)
-        ∙ length-append (all_bytes ys) (all_bytes zs)
+    ∙ length-append (all_bytes ys) (all_bytes zs)
 
 pub bad_told : (side : Side) (limit : ℕ) (bytes : List ℕ) (place : ℕ) (why : Why) → All (λ byte. byte < 256) bytes → IsBad side bytes place why
     → BadTold side limit bytes place why
@@ -112,15 +123,19 @@ BeyondTold side limit bytes place =
 
 beyond_here : (side : Side) (limit : ℕ) (bytes : List ℕ) (h : Read side limit bytes (read side limit bytes)) (place : ℕ) → All (λ byte. byte < 256) bytes
     → (read side limit bytes).position.room < length h.rest → place ≡ length (all_bytes h.spelled) + (read side limit bytes).position.room
-        → BeyondTold side limit bytes place
+    → BeyondTold side limit bytes place
 beyond_here side limit bytes h place fits came there =
     let r = read side limit bytes in
     elim h.last [
       | Waiting none left waits room ↦ absurd (omega arith)
       | Long fault x is past within ↦ inl (subst (TellsTooLong (read side limit bytes)) (sym there) (tells_too_long side limit bytes h fault))
       | Wrong offset why fault is room ↦
-          inr (length (all_bytes h.spelled) + offset, omega arith, inl
-              (why, wrong_is_bad side limit bytes r h offset why fits is, tells_frame side limit bytes h offset why fault))
+          inr (
+            length (all_bytes h.spelled) + offset,
+            omega arith,
+            inl
+                (why, wrong_is_bad side limit bytes r h offset why fits is, tells_frame side limit bytes h offset why fault),
+          )
     ]
 
 beyond_behind : (side : Side) (limit : ℕ) (bytes : List ℕ) (place : ℕ) → All (λ byte. byte < 256) bytes
@@ -129,7 +144,7 @@ beyond_behind : (side : Side) (limit : ℕ) (bytes : List ℕ) (place : ℕ) →
 beyond_behind side limit bytes place fits h b [] each grown e =
     let same : b.spelled ≡ h.spelled = grown ∙ append-nil h.spelled in
     let room : (read side limit bytes).position.room ≡ limit - chain_after 0 b.spelled = h.room
-        ∙ ap (λ (ss : List Spelled). limit - chain_after 0 ss) (sym same) in
+    ∙ ap (λ (ss : List Spelled). limit - chain_after 0 ss) (sym same) in
     let front : length (all_bytes b.spelled) ≡ length (all_bytes h.spelled) = ap (λ (ss : List Spelled). length (all_bytes ss)) same in
     let rest : length h.rest ≡ length b.rest = ap length e in
     let came = b.came in

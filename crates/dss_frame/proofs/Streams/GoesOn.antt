@@ -109,14 +109,14 @@ fill_length offset (b ∷ c ∷ bytes) small few = absurd (omega arith)
 fill_behind : (n offset : ℕ) (bytes more : List ℕ) → IsWhole bytes → continues bytes ≡ true → length (bytes ++ more) ≤ n
     → ((m : ℕ) → length (drop (segment_size bytes) bytes ++ more) ≤ m
     → segments_extent m (offset + segment_size bytes) (drop (segment_size bytes) bytes ++ more) ≡ Ends
-        (offset + segment_size bytes + length (drop (segment_size bytes) bytes ++ more)))
+    (offset + segment_size bytes + length (drop (segment_size bytes) bytes ++ more)))
     → segments_extent n offset (bytes ++ more) ≡ Ends (offset + length (bytes ++ more))
 fill_behind zero offset bytes more w goes enough ends = absurd (omega (arith, w.long, length-append bytes more))
 fill_behind (suc n) offset bytes more w goes enough ends =
     let size = segment_size bytes in
     let all : length (bytes ++ more) ≡ length bytes + length more = length-append bytes more in
     let rest : length (drop size bytes ++ more) ≡ length bytes - size + length more = length-append (drop size bytes) more
-        ∙ ap (λ (k : ℕ). k + length more) (length-drop size bytes) in
+    ∙ ap (λ (k : ℕ). k + length more) (length-drop size bytes) in
     let sum : offset + size + length (drop size bytes ++ more) ≡ offset + length (bytes ++ more) = omega arith in
     goes_append n offset bytes more w goes ∙ ends n (omega arith) ∙ ap (λ (k : ℕ). Ends k) sum
 
@@ -132,7 +132,7 @@ fill_segments (suc n) offset bytes small enough waits =
           let size = segment_size bytes in
           let len = length-drop size bytes in
           let h = fill_segments n (offset + size) (drop size bytes) (All-drop (λ byte. byte < 256) size bytes small) (omega arith)
-              (sym (extent_goes n offset bytes w goes) ∙ waits) in
+          (sym (extent_goes n offset bytes w goes) ∙ waits) in
           record { more = h.more; small = h.small; ends = λ m enough_more. fill_behind m offset bytes h.more w goes enough_more h.ends }
     ]
 
@@ -253,7 +253,7 @@ longer_once side xs ys (z ∷ zs) a b offset other why reason each grown e fails
 bad_once : (side : Side) (xs ys : List Spelled) (a b : List ℕ) (offset other : ℕ) (why reason : Why) → AllByRecursion (IsSpelled side) xs
     → AllByRecursion (IsSpelled side) ys
     → all_bytes xs ++ a ≡ all_bytes ys ++ b → extent_of side a ≡ Fails offset why → extent_of side b ≡ Fails other reason
-        → length (all_bytes xs) + offset ≡ length (all_bytes ys) + other
+    → length (all_bytes xs) + offset ≡ length (all_bytes ys) + other
 bad_once side xs ys a b offset other why reason each_x each_y same fails fails_too =
     elim (compare side xs ys a b each_x each_y same) [
       | Longer zs each grown e ↦ longer_once side xs ys zs a b offset other why reason each grown e fails fails_too
@@ -268,11 +268,11 @@ none_before side bytes place why fits bad other reason early =
     let front_fits : AreBytes front = All-take (λ byte. byte < 256) place bytes fits in
     let fails = bad_fails side bad.rest bad.offset why (rest_fits (all_bytes bad.spelled) bad.rest bytes bad.begins.all fits) bad.field in
     let fails_early = bad_fails side early.rest early.offset reason (rest_fits (all_bytes early.spelled) early.rest front early.begins.all front_fits)
-        early.field in
+    early.field in
     let within = fails_within side early.rest early.offset reason fails_early in
     let same : all_bytes bad.spelled ++ bad.rest ≡ all_bytes early.spelled ++ (early.rest ++ behind) =
     sym bad.begins.all ∙ sym (take-append-drop place bytes) ∙ ap (λ (xs : List ℕ). xs ++ behind) early.begins.all
-        ∙ append_assoc (all_bytes early.spelled) early.rest behind in
+    ∙ append_assoc (all_bytes early.spelled) early.rest behind in
     let one = bad_once side bad.spelled early.spelled bad.rest (early.rest ++ behind) bad.offset early.offset why reason bad.begins.each early.begins.each same
     fails (fails_append side early.rest behind early.offset reason fails_early) in
     let there = bad.there in

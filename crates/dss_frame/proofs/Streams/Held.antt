@@ -76,19 +76,19 @@ holds_rest side limit calls fits small none =
     let there : Position = position_on limit first c.gone in
     let rest_is : v.open ≡ h.rest = ap (λ (w : View). w.open) read ∙ waiting side _ h.rest _ h.last (sym (ap (λ (w : View). w.fault) read) ∙ none) in
     let at : v.position.at ≡ min (0 + length (all_bytes h.spelled)) (2 ^ 64 - 1) = ap (λ (p : Position). p.at) position
-        ∙ place_on limit first h.spelled (omega arith) in
+    ∙ place_on limit first h.spelled (omega arith) in
     let from : first_place v.whole v.position.at ≡ min (0 + length (all_bytes c.gone)) (2 ^ 64 - 1) =
-      ap (λ (ps : List Placed). first_place ps v.position.at) c.placed
-      ∙ ap (λ (p : Position). first_place (placed_on limit there c.kept) p.at) (position ∙ c.ends)
-      ∙ first_at limit there c.kept ∙ place_on limit first c.gone (omega arith) in
+    ap (λ (ps : List Placed). first_place ps v.position.at) c.placed
+    ∙ ap (λ (p : Position). first_place (placed_on limit there c.kept) p.at) (position ∙ c.ends)
+    ∙ first_at limit there c.kept ∙ place_on limit first c.gone (omega arith) in
     let split : length (all_bytes h.spelled) ≡ length (all_bytes c.gone) + length (all_bytes c.kept) = ap length c.bytes
-        ∙ length-append (all_bytes c.gone) (all_bytes c.kept) in
+    ∙ length-append (all_bytes c.gone) (all_bytes c.kept) in
     let all : length bytes ≡ length (all_bytes h.spelled) + length h.rest = ap length h.begins.all ∙ length-append (all_bytes h.spelled) h.rest in
     let begun : read_behind v.position.at v.open v.fault ≡ length h.rest = ap (read_behind v.position.at v.open) none ∙ ap length rest_is in
     let sum : held_of v ≡ length (all_bytes c.kept) + length h.rest =
-      ap (λ (n : ℕ). min (v.position.at - first_place v.whole v.position.at + n) (2 ^ 64 - 1)) begun
-      ∙ counted (length (all_bytes h.spelled)) (length (all_bytes c.gone)) (length (all_bytes c.kept)) (length h.rest) v.position.at
-          (first_place v.whole v.position.at) (2 ^ 64 - 1) split (omega arith) at from in
+    ap (λ (n : ℕ). min (v.position.at - first_place v.whole v.position.at + n) (2 ^ 64 - 1)) begun
+    ∙ counted (length (all_bytes h.spelled)) (length (all_bytes c.gone)) (length (all_bytes c.kept)) (length h.rest) v.position.at
+    (first_place v.whole v.position.at) (2 ^ 64 - 1) split (omega arith) at from in
     record {
       spelled = c.gone;
       rest = all_bytes c.kept ++ h.rest;

@@ -16,9 +16,12 @@ none_before bytes most = omega arith
 
 are_at : (limit place : ℕ) (position : Position) (spelled : List Spelled) → position.at ≡ told place → AreAt place spelled (placed_on limit position spelled)
 are_at limit place position [] e = tt
-are_at limit place position (s ∷ spelled) e =
-    (refl, e, are_at limit (place + length s.bytes) (position_after limit position s.dss (length s.bytes)) spelled
-        (further position.at place (length s.bytes) (2 ^ 64 - 1) e))
+are_at limit place position (s ∷ spelled) e = (
+  refl,
+  e,
+  are_at limit (place + length s.bytes) (position_after limit position s.dss (length s.bytes)) spelled
+      (further position.at place (length s.bytes) (2 ^ 64 - 1) e),
+)
 
 pub stands_at : (side : Side) (limit : ℕ) (bytes : List ℕ) → All (λ byte. byte < 256) bytes → StandsAt side bytes (fed (start side limit) bytes)
 stands_at side limit bytes fits =

@@ -55,7 +55,7 @@ past_goes_on : (side : Side) (room : ℕ) (rest : List ℕ) (x : Extent) (d : Ds
     → Spells side d (take count rest) → ⊥
 past_goes_on side room rest x d count e past le spells =
     let ends : extent_of side rest ≡ Ends (length (take count rest)) = ap (extent_of side) (sym (take-append-drop count rest))
-        ∙ spelled_read side d (take count rest) (drop count rest) spells in
+    ∙ spelled_read side d (take count rest) (drop count rest) spells in
     let more : room < length (take count rest) = subst (IsPast room rest) (sym e ∙ ends) past in
     absurd (omega (arith, length-take count rest))
 
@@ -104,7 +104,7 @@ frame_told side limit bytes at corr why fits e =
 pub beyond_told : (side : Side) (limit : ℕ) (bytes : List ℕ) (at corr : ℕ) → All (λ byte. byte < 256) bytes
     → (read side limit bytes).fault ≡ Some (TooLong at corr)
     → (place : ℕ) × (beyond : IsBeyond side limit bytes place) × (at ≡ told place) ×
-        (corr ≡ number_told beyond.spelled beyond.rest (limit - chain_after 0 beyond.spelled))
+    (corr ≡ number_told beyond.spelled beyond.rest (limit - chain_after 0 beyond.spelled))
 unfolding long_is_beyond
 beyond_told side limit bytes at corr fits e =
     let r = read side limit bytes in
@@ -187,4 +187,4 @@ pub whole_read : (side : Side) (limit : ℕ) (bytes : List ℕ) (spelled : List 
     → ((read side limit bytes).fault ≡ None) × (dsss_of (read side limit bytes) ≡ map (λ (s : Spelled). s.dss) spelled) × ((read side limit bytes).open ≡ [])
 whole_read side limit bytes spelled fits begins short =
     short_read side limit bytes (map (λ (s : Spelled). s.dss) spelled) [] fits (whole_stream side bytes spelled begins)
-        (whole_not_bad side bytes spelled fits begins) short
+    (whole_not_bad side bytes spelled fits begins) short

@@ -22,9 +22,9 @@ continues-requires c =
 pub returns-then-not-continues : goal.returns-then-not-continues
 returns-then-not-continues c =
     let part = part_is c.loop-room.rest.now c.split_at.result.0.now c.loop-room.header c.segment_size.result c.split_at.ensures.front
-        c.segment_size.ensures.size in
+    c.segment_size.ensures.size in
     let all : c.in_ok-body.body ≡ c.extend_from_slice.new.self.items = c.in_ok-body.ensures.front
-        ∙ take_all c.len.result _ (omega (arith, c.len.ensures.value)) in
+    ∙ take_all c.len.result _ (omega (arith, c.len.ensures.value)) in
     c.from_shared.ensures ∙ all
     ∙ holds_last _ _ _ _ _ _ _ _ c.loop-room.invariant.1 (sym c.continues.ensures ∙ c.if-not-continues.true) part c.in_ok-extend_from_slice.ensures.ok
 
@@ -40,6 +40,6 @@ loop-room-preserved c =
     let rest : List ℕ = c.loop-room.rest.now in
     let part = part_is rest c.split_at.result.0.now c.loop-room.header c.segment_size.result c.split_at.ensures.front c.segment_size.ensures.size in
     let next = holds_more _ _ _ _ _ _ _ _ c.loop-room.invariant.1 (sym c.continues.ensures
-        ∙ c.if-not-continues.false) part c.in_ok-extend_from_slice.ensures.ok in
+    ∙ c.if-not-continues.false) part c.in_ok-extend_from_slice.ensures.ok in
     let after : c.split_at.result.1.now ≡ drop (segment_size rest) rest = c.split_at.ensures.back ∙ ap (λ (n : ℕ). drop n rest) c.segment_size.ensures.size in
     (c.loop-room.invariant.0 + segment_size rest, rw after next)

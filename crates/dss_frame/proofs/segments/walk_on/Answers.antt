@@ -9,25 +9,43 @@ pub returns-then-rest-lt-FURTHER_HEADER : goal.returns-then-rest-lt-FURTHER_HEAD
 returns-then-rest-lt-FURTHER_HEADER c =
     let left = length-drop c.loop-rest.walked c.args.bytes.now in
     let s = stops_short c.loop-rest.walked (drop c.loop-rest.walked c.args.bytes.now) _ _ c.loop-rest.invariant.is_walked.comes_to (omega arith) in
-    record { extent = s.extent_is; walked = s.walked_is; steps = omega (arith, c.loop-rest.invariant.steps); last = tt; within =
-        c.loop-rest.invariant.is_walked.within }
+    record {
+      extent = s.extent_is;
+      walked = s.walked_is;
+      steps = omega (arith, c.loop-rest.invariant.steps);
+      last = tt;
+      within =
+          c.loop-rest.invariant.is_walked.within;
+    }
 
 pub returns-then-size-lt-LEAST_FURTHER : goal.returns-then-size-lt-LEAST_FURTHER
 returns-then-size-lt-LEAST_FURTHER c =
     let left = length-drop c.loop-rest.walked c.args.bytes.now in
     let size = size_at c.args.bytes.now c.loop-rest.walked c.segment_size-size.result c.segment_size-size.ensures.size in
     let s = stops_low c.loop-rest.walked (drop c.loop-rest.walked c.args.bytes.now) _ _ c.loop-rest.invariant.is_walked.comes_to (omega arith) (omega arith) in
-    record { extent = s.extent_is; walked = s.walked_is; steps = omega (arith, c.loop-rest.invariant.steps); last = tt; within =
-        c.loop-rest.invariant.is_walked.within }
+    record {
+      extent = s.extent_is;
+      walked = s.walked_is;
+      steps = omega (arith, c.loop-rest.invariant.steps);
+      last = tt;
+      within =
+          c.loop-rest.invariant.is_walked.within;
+    }
 
 pub returns-then-rest-size : goal.returns-then-rest-size
 returns-then-rest-size c =
     let left = length-drop c.loop-rest.walked c.args.bytes.now in
     let size = size_at c.args.bytes.now c.loop-rest.walked c.segment_size-size.result c.segment_size-size.ensures.size in
     let s = stops_cut c.loop-rest.walked (drop c.loop-rest.walked c.args.bytes.now) _ _ c.loop-rest.invariant.is_walked.comes_to (omega arith) (omega arith)
-        (omega arith) in
-    record { extent = s.extent_is; walked = s.walked_is; steps = omega (arith, c.loop-rest.invariant.steps); last = tt; within =
-        c.loop-rest.invariant.is_walked.within }
+    (omega arith) in
+    record {
+      extent = s.extent_is;
+      walked = s.walked_is;
+      steps = omega (arith, c.loop-rest.invariant.steps);
+      last = tt;
+      within =
+          c.loop-rest.invariant.is_walked.within;
+    }
 
 pub returns-then-not-continues : goal.returns-then-not-continues
 returns-then-not-continues c =
@@ -38,14 +56,20 @@ returns-then-not-continues c =
     let last = continues_at c.args.bytes.now offset c.continues.result _ c.continues.ensures c.if-not-continues.true in
     let whole : IsWhole rest = record { long = omega arith; least = omega arith; there = omega arith } in
     let s = stops_last offset rest _ _ c.loop-rest.invariant.is_walked.comes_to whole last in
-    record { extent = ap (λ (n : ℕ). Ends (offset + n)) size ∙ s.extent_is; walked = s.walked_is; steps = omega (arith, c.loop-rest.invariant.steps); last =
-        omega arith; within = c.loop-rest.invariant.is_walked.within }
+    record {
+      extent = ap (λ (n : ℕ). Ends (offset + n)) size ∙ s.extent_is;
+      walked = s.walked_is;
+      steps = omega (arith, c.loop-rest.invariant.steps);
+      last =
+          omega arith;
+      within = c.loop-rest.invariant.is_walked.within;
+    }
 
 pub loop-rest-smaller : goal.loop-rest-smaller
 loop-rest-smaller c =
     let left = length-drop c.loop-rest.walked c.args.bytes.now in
     let less : length c.args.bytes.now - (c.loop-rest.walked + c.segment_size-size.result) < length c.args.bytes.now - c.loop-rest.walked =
-        omega (arith, c.loop-rest.invariant.is_walked.within) in
+    omega (arith, c.loop-rest.invariant.is_walked.within) in
     less
 
 pub loop-rest-preserved : goal.loop-rest-preserved

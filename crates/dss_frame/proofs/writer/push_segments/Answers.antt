@@ -29,14 +29,14 @@ pub loop-rest-smaller : goal.loop-rest-smaller
 loop-rest-smaller c =
     let some = nonempty (length c.loop-rest.rest.now) _ c.is_empty-in-loop-rest.ensures c.loop-rest-test.true in
     let less : length c.cut-in-loop-rest.result.1.now < length c.loop-rest.rest.now =
-        omega (arith, some, ap length c.cut-in-loop-rest.ensures.rest, length-drop {A = ℕ}) in
+    omega (arith, some, ap length c.cut-in-loop-rest.ensures.rest, length-drop {A = ℕ}) in
     less
 
 pub loop-rest-preserved : goal.loop-rest-preserved
 loop-rest-preserved c =
     let some = nonempty (length c.loop-rest.rest.now) _ c.is_empty-in-loop-rest.ensures c.loop-rest-test.true in
     let w = wrote_further c.args.out.now c.loop-rest.out c.push_length.new.out c.push_all-in-loop-rest.new.self c.cut-in-loop-rest.result.0.now
-        c.loop-rest.rest.now c.cut-in-loop-rest.result.1.now _ _
+    c.loop-rest.rest.now c.cut-in-loop-rest.result.1.now _ _
     some c.cut-in-loop-rest.ensures.part c.cut-in-loop-rest.ensures.rest (ap not c.is_empty-in-loop-rest-2.ensures)
     c.in_ok-push_length.ensures.ok c.in_ok-push_all-2.ensures.ok c.loop-rest.invariant.kept c.loop-rest.invariant.goes_on in
     record { kept = w.0; goes_on = w.1 }

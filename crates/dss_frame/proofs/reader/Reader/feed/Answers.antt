@@ -20,9 +20,10 @@ scan-requires c =
     (subst (λ (n : ℕ). IsWalked n (bytes ++ c.args.piece.now)) (sym c.self.invariant.1) (walked_before bytes c.args.piece.now))
 
 pub invariant_of-self-2 : goal.invariant_of-self-2
-invariant_of-self-2 c =
-    (scanned_within _ _ _ _ _ _ _ c.in-Ok.ensures.ok c.self.invariant.0,
-    c.in-Ok.ensures.walked ∙ ap walked_to (ap (drop c.in-Ok.scan.begins) c.as_slice.ensures.value ∙ sym c.keep_from.ensures))
+invariant_of-self-2 c = (
+  scanned_within _ _ _ _ _ _ _ c.in-Ok.ensures.ok c.self.invariant.0,
+  c.in-Ok.ensures.walked ∙ ap walked_to (ap (drop c.in-Ok.scan.begins) c.as_slice.ensures.value ∙ sym c.keep_from.ensures),
+)
 
 pub returns-clause-ok : goal.returns-clause-ok
 returns-clause-ok c =
@@ -40,9 +41,10 @@ returns-clause-ok c =
     ∙ ap (λ (w : View). fed w c.args.piece.now) c.self.view_is
 
 pub invariant_of-self-in-Some-fault : goal.invariant_of-self-in-Some-fault
-invariant_of-self-in-Some-fault c =
-    (scanned_within _ _ _ _ _ _ _ c.in-Ok.ensures.ok c.self.invariant.0,
-    c.in-Ok.ensures.walked ∙ ap walked_to (ap (drop c.in-Ok.scan.begins) c.as_slice.ensures.value ∙ sym c.keep_from.ensures))
+invariant_of-self-in-Some-fault c = (
+  scanned_within _ _ _ _ _ _ _ c.in-Ok.ensures.ok c.self.invariant.0,
+  c.in-Ok.ensures.walked ∙ ap walked_to (ap (drop c.in-Ok.scan.begins) c.as_slice.ensures.value ∙ sym c.keep_from.ensures),
+)
 
 pub returns-in-Some-fault-clause-err : goal.returns-in-Some-fault-clause-err
 returns-in-Some-fault-clause-err c =

@@ -21,26 +21,26 @@ pub slice_bounds-dss_of-end : goal.slice_bounds-dss_of-end
 slice_bounds-dss_of-end c =
     let rest : List ℕ = drop c.loop-fault.begins c.args.bytes.now in
     let read = read_at c.args.self.side c.loop-fault.position c.args.bytes.now c.loop-fault.begins c.in-Reads.len (sym c.in-Reads.is
-        ∙ c.next-next.ensures.step) in
+    ∙ c.next-next.ensures.step) in
     rw (take_rest c.args.bytes.now c.loop-fault.begins, length-take c.in-Reads.len rest) (omega (arith, read.within))
 
 pub dss_of-requires : goal.dss_of-requires
 dss_of-requires c =
     let rest : List ℕ = drop c.loop-fault.begins c.args.bytes.now in
     let read = read_at c.args.self.side c.loop-fault.position c.args.bytes.now c.loop-fault.begins c.in-Reads.len (sym c.in-Reads.is
-        ∙ c.next-next.ensures.step) in
+    ∙ c.next-next.ensures.step) in
     rw (take_rest c.args.bytes.now c.loop-fault.begins) (whole_part c.args.self.side rest c.in-Reads.len read.ends)
 
 pub overflow_add-begins : goal.overflow_add-begins
 overflow_add-begins c =
     let read = read_at c.args.self.side c.loop-fault.position c.args.bytes.now c.loop-fault.begins c.in-Reads.len (sym c.in-Reads.is
-        ∙ c.next-next.ensures.step) in
+    ∙ c.next-next.ensures.step) in
     omega (arith, read.within, length-drop c.loop-fault.begins c.args.bytes.now)
 
 pub loop-fault-smaller : goal.loop-fault-smaller
 loop-fault-smaller c =
     let read = read_at c.args.self.side c.loop-fault.position c.args.bytes.now c.loop-fault.begins c.in-Reads.len (sym c.in-Reads.is
-        ∙ c.next-next.ensures.step) in
+    ∙ c.next-next.ensures.step) in
     let less : length c.args.bytes.now - (c.loop-fault.begins + c.in-Reads.len) < length c.args.bytes.now - c.loop-fault.begins =
     omega (arith, read.some, read.within, length-drop c.loop-fault.begins c.args.bytes.now) in
     less
@@ -64,11 +64,25 @@ returns-in-Stops-clause-walked c = sym (walked_nothing c.args.bytes.now)
 pub overflow_add-judged : goal.overflow_add-judged
 overflow_add-judged c =
     let left = length-drop c.loop-fault.begins c.args.bytes.now in
-    omega (arith, c.loop-fault.invariant.steps, c.loop-fault.invariant.reads_on.within, c.next-next.ensures.steps, c.next-next.ensures.within, length-take
-        {A = ℕ})
+    omega (
+      arith,
+      c.loop-fault.invariant.steps,
+      c.loop-fault.invariant.reads_on.within,
+      c.next-next.ensures.steps,
+      c.next-next.ensures.within,
+      length-take
+          {A = ℕ},
+    )
 
 pub returns-in-Stops-clause-steps : goal.returns-in-Stops-clause-steps
 returns-in-Stops-clause-steps c =
     let left = length-drop c.loop-fault.begins c.args.bytes.now in
-    omega (arith, c.loop-fault.invariant.steps, c.loop-fault.invariant.reads_on.within, c.next-next.ensures.steps, c.next-next.ensures.within, length-take
-        {A = ℕ})
+    omega (
+      arith,
+      c.loop-fault.invariant.steps,
+      c.loop-fault.invariant.reads_on.within,
+      c.next-next.ensures.steps,
+      c.next-next.ensures.within,
+      length-take
+          {A = ℕ},
+    )
