@@ -298,9 +298,8 @@ fn holds_what_is_not_taken(rt: HostRuntime) -> Result<(), Fail> {
     Ok(())
 }
 
-#[test]
-fn reads_a_long_chain_byte_by_byte(rt: HostRuntime) -> Result<(), Fail> {
-    let alloc = rt.alloc();
+/// A chain of a request and of an object with a body of this size.
+fn chain(alloc: Global, size: usize) -> Result<DssList, Fail> {
     let mut dsss = DssList::new(alloc);
     dsss.push(Dss {
         kind: Kind::Request,
@@ -316,8 +315,13 @@ fn reads_a_long_chain_byte_by_byte(rt: HostRuntime) -> Result<(), Fail> {
         same: false,
         go_on: false,
         corr: 1,
-        body: Octets::of(alloc, vec![in alloc; 7; 4_000_000]?.as_slice())?,
+        body: Octets::of(alloc, vec![in alloc; 7; size]?.as_slice())?,
     })?;
+    Ok(dsss)
+}
+
+/// Writes the DSSs, feeds their bytes one by one, and takes the same DSSs.
+fn read_byte_by_byte(rt: &impl Abort, alloc: Global, dsss: &DssList) -> Result<(), Fail> {
     let mut out = Octets::new(alloc);
     for dss in dsss.as_slice() {
         assert!(rt; dss.chained || !dss.same);
@@ -334,4 +338,10 @@ fn reads_a_long_chain_byte_by_byte(rt: HostRuntime) -> Result<(), Fail> {
     }
     assert_eq!(rt; reader.held(), 0);
     Ok(())
+}
+
+#[test]
+fn reads_a_long_chain_byte_by_byte(rt: HostRuntime) -> Result<(), Fail> {
+    let dsss = chain(rt.alloc(), 4_000_000)?;
+    read_byte_by_byte(&rt, rt.alloc(), &dsss)
 }
