@@ -34,7 +34,7 @@ const LEAST_FURTHER: usize = 3;
 const CONTINUES: u16 = 0x8000;
 
 /// A body of so many bytes in one segment stands in the value itself.
-const SHORT_BODY: usize = 24;
+pub(crate) const SHORT_BODY: usize = 24;
 
 /// How many bytes of room for bodies are made at once, at least.
 const BLOCK: usize = 65_536;

@@ -1,9 +1,9 @@
-ghost use Rattle.std.specs.Prelude.{◌≡◌, ◌+◌, ◌<◌, ◌++◌, length, take, drop, IsTrue, OnOk, OnErr};
+ghost use Rattle.std.specs.Prelude.{◌≡◌, ◌+◌, ◌<◌, ◌≤◌, ◌++◌, length, take, drop, IsTrue, OnOk, OnErr};
 ghost use Rattle.dss_frame.specs.Dss.{kind_number, flag, format_byte, segment_length, header, canonical};
 ghost use Rattle.dss_frame.specs.Scan.{Extends};
 
 use crate::dss::{Dss, Kind};
-use crate::segments::{FURTHER_HEADER, HEADER, MAGIC};
+use crate::segments::{FURTHER_HEADER, HEADER, MAGIC, SHORT_BODY};
 use byteorder::{BigEndian, ByteOrder};
 use link_ends::{NoMemory, Octets};
 
@@ -12,6 +12,9 @@ const FIRST_ROOM: usize = 32_761;
 
 /// How many bytes of body a further segment holds.
 const FURTHER_ROOM: usize = 32_765;
+
+/// How many bytes a DSS has at most whose body is short.
+const SHORT_DSS: usize = 30;
 
 /// This bit, where it is set.
 fn bit(set: bool, value: u8) -> u8
@@ -59,17 +62,31 @@ fn length_field(bytes: usize, continues: bool) -> u16
     }
 }
 
-fn push_header(dss: &Dss, len: usize, continues: bool, out: &mut Octets) -> Result<(), NoMemory>
+/// The header of the first segment, which has so many bytes.
+fn header_bytes(dss: &Dss, len: usize, continues: bool) -> [u8; HEADER]
     requires { len < 32768 }
-    ensures ok { OnOk result (out.new ≡ out.old ++ header dss.now len continues) }
-    ensures err { OnErr result (out.new ≡ out.old) }
+    ensures { result ≡ header dss.now len continues }
 {
-    let mut bytes = [0; 6];
+    let mut bytes = [0; HEADER];
     BigEndian::write_u16(&mut bytes, length_field(len, continues));
     bytes[2] = MAGIC;
     bytes[3] = format_byte(dss);
     BigEndian::write_u16(&mut bytes[4..], dss.corr);
-    out.push_all(&bytes)
+    bytes
+}
+
+/// Appends the header and a short body at once.
+fn push_short(dss: &Dss, out: &mut Octets) -> Result<(), NoMemory>
+    requires { length dss.now.body ≤ 24 }
+    ensures ok { OnOk result (out.new ≡ out.old ++ canonical dss.now) }
+    ensures err { OnErr result (out.new ≡ out.old) }
+{
+    let body = dss.body.as_slice();
+    let len = HEADER + body.len();
+    let mut bytes = [0; SHORT_DSS];
+    bytes[..HEADER].copy_from_slice(&header_bytes(dss, len, false));
+    bytes[HEADER..len].copy_from_slice(body);
+    out.push_all(&bytes[..len])
 }
 
 fn push_length(len: usize, continues: bool, out: &mut Octets) -> Result<(), NoMemory>
@@ -88,7 +105,7 @@ fn push_segments(dss: &Dss, out: &mut Octets) -> Result<(), NoMemory>
     ensures err { OnErr result (Extends out.old out.new) }
 {
     let (part, mut rest) = cut(dss.body.as_slice(), FIRST_ROOM);
-    push_header(dss, HEADER + part.len(), !rest.is_empty(), out)?;
+    out.push_all(&header_bytes(dss, HEADER + part.len(), !rest.is_empty()))?;
     out.push_all(part)?;
     while !rest.is_empty() {
         let (part, after) = cut(rest, FURTHER_ROOM);
@@ -105,6 +122,9 @@ pub fn write_dss(dss: &Dss, out: &mut Octets) -> Result<(), NoMemory>
     ensures ok { OnOk result (out.new ≡ out.old ++ canonical dss.now) }
     ensures err { OnErr result (out.new ≡ out.old) }
 {
+    if dss.body.len() <= SHORT_BODY {
+        return push_short(dss, out);
+    }
     let before = out.len();
     let written = push_segments(dss, out);
     if written.is_err() {

@@ -1,9 +1,9 @@
 -- The segments of the canonical spelling, one after the other.
-use Rattle.std.proofs.Common.{◌≡◌, ℕ, suc, ◌+◌, ◌<◌, Bool, false, not, eqb, ltb, List, [], ◌++◌, length, take, drop, refl, sym, ap, ◌∙◌, append_assoc}
+use Rattle.std.proofs.Common.{◌≡◌, ℕ, suc, ◌+◌, ◌<◌, ◌≤◌, Bool, false, not, eqb, ltb, List, [], ◌++◌, length, take, drop, refl, sym, ap, ◌∙◌, append_assoc}
 use Rattle.std.proofs.Common.{arith, inl, inr}
 use Rattle.std.proofs.lemmas.Bool.{cases_lt, lt-ltb, le-ltb}
 use Rattle.std.proofs.lemmas.Bool.Decides.{nat_tests}
-use Rattle.std.proofs.lemmas.List.{append-nil, length-drop, nil_from_length}
+use Rattle.std.proofs.lemmas.List.{append-nil, length-drop, nil_from_length, take_all}
 use Rattle.dss_frame.specs.declared.dss.Dss.{Dss}
 use Rattle.dss_frame.specs.Scan.{Extends}
 use Rattle.dss_frame.proofs.Loops.Extending.{Extends-same, Extends-append}
@@ -45,6 +45,18 @@ pub canonical-is : (d : Dss) → canonical d ≡ header d (6 + length (take firs
     (take first_room d.body ++ further_segments (drop first_room d.body))
 unfolding canonical
 canonical-is d = refl
+
+-- a short body stands in the first segment, all of it
+pub canonical_short : (d : Dss) → length d.body ≤ 24 → canonical d ≡ header d (6 + length d.body) false ++ d.body
+canonical_short d short =
+    let first : List ℕ = take first_room d.body in
+    let front : first ≡ d.body = take_all first_room d.body (omega arith) in
+    let none : length (drop first_room d.body) ≡ 0 = omega (arith, length-drop first_room d.body) in
+    canonical-is d
+    ∙ ap (λ (b : Bool). header d (6 + length first) b ++ (first ++ further_segments (drop first_room d.body))) (le-ltb 0 _ (omega arith))
+    ∙ ap (λ (xs : List ℕ). header d (6 + length first) false ++ (first ++ xs)) (further-nil (drop first_room d.body) none)
+    ∙ ap (λ (xs : List ℕ). header d (6 + length xs) false ++ (xs ++ [])) front
+    ∙ ap (λ (xs : List ℕ). header d (6 + length d.body) false ++ xs) (append-nil d.body)
 
 -- what is written of a segment, and what is still to be written
 wrote_part : (old now later head part others all : List ℕ) → now ≡ old ++ head → later ≡ now ++ part → all ≡ head ++ (part ++ others)
