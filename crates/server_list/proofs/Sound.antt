@@ -87,3 +87,11 @@ below_32 (row ∷ rows) h = ((let m = h.0 in grind (arith, nat_tests)), below_32
 -- each row has a member's number
 pub members_within : (rows : List ServerRow) → IsSound rows → All (λ row. row.member ≤ 32) rows
 members_within rows sound = All-from_recursion (λ (row : ServerRow). row.member ≤ 32) rows (below_32 rows sound.members)
+
+above_0 : (rows : List ServerRow) → AllByRecursion (λ row. is_member row.member ≡ true) rows → AllByRecursion (λ row. 1 ≤ row.member) rows
+above_0 [] h = tt
+above_0 (row ∷ rows) h = ((let m = h.0 in grind (arith, nat_tests)), above_0 rows h.1)
+
+-- no row's number is 0
+pub members_numbered : (rows : List ServerRow) → IsSound rows → All (λ row. 1 ≤ row.member) rows
+members_numbered rows sound = All-from_recursion (λ (row : ServerRow). 1 ≤ row.member) rows (above_0 rows sound.members)

@@ -86,8 +86,9 @@ impl ServerList {
     }
 
     /// The rows, in order.
-    pub(crate) fn rows(&self) -> &[ServerRow]
+    pub fn rows(&self) -> &[ServerRow]
         ensures rows { result.now ≡ self.now.rows }
+        ensures numbered { All (λ row. 1 ≤ row.member) self.now.rows }
         ensures members { All (λ row. row.member ≤ 32) self.now.rows }
     {
         &self.rows[..self.len]
