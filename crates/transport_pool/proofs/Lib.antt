@@ -1,0 +1,4 @@
+pub mod Finding
+pub mod Keeps
+pub mod Zeros
+pub mod Running

@@ -1,0 +1,5 @@
+pub mod State
+pub mod Steps
+pub mod Sound
+pub mod Inside
+pub mod Runs
