@@ -1,0 +1,12 @@
+pub mod Limit
+pub mod Command
+pub mod Chain
+pub mod Segment
+pub mod Spelling
+pub mod Release
+pub mod Strip
+pub mod Statement
+pub mod Registers
+pub mod Body
+pub mod ChainReader
+pub mod Cut

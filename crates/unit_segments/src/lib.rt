@@ -1,0 +1,24 @@
+//! Chains of commands: reading them, cutting them into the segments that run at once, asking for release, taking what was
+//! asked for out of the replies, and the log of special registers.
+#![tactic(auto)]
+
+mod body;
+mod chain_reader;
+mod command;
+mod fault;
+mod join;
+mod registers;
+mod segment;
+mod share;
+mod strip;
+
+pub use chain_reader::ChainReader;
+pub use command::{Chain, Command, CommandList};
+pub use fault::ChainFault;
+pub use join::join_replies;
+pub use registers::RegisterFault;
+pub use segment::{Segment, SegmentList, cut};
+pub use strip::Stripped;
+
+#[cfg(test)]
+mod tests;
