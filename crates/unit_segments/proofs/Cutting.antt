@@ -10,7 +10,7 @@ use Rattle.ddm_codepoints.specs.CodeClass.{class_of}
 use Rattle.unit_segments.specs.declared.command.Command.{Command}
 use Rattle.unit_segments.specs.Command.{is_passed, ends_unit}
 use Rattle.unit_segments.specs.Segment.{goes_on_a_run, passed_before, segments_of}
-use Rattle.unit_segments.specs.Cut.{with_run, run_before, IsPassed, Cuts, Progress, after_command}
+use Rattle.unit_segments.specs.Cut.{with_run, run_before, IsPassed, Cuts, after_command}
 
 or_true : (a b : Bool) → a ≡ true → (a || b) ≡ true
 or_true true b is = refl
@@ -90,7 +90,7 @@ cuts_passed all rest segments run command cuts is =
     let first : segments_of (command ∷ rest) ≡ passed_before command (segments_of rest) = segments_step command rest ∙ rw is refl in
     record {
       same = ap (λ (ss : List (List Command)). segments ++ ss) (run_push run command (segments_of rest))
-        ∙ ap (λ (ss : List (List Command)). segments ++ run_before run ss) (sym first) ∙ cuts.same;
+          ∙ ap (λ (ss : List (List Command)). segments ++ run_before run ss) (sym first) ∙ cuts.same;
       passed = all_push IsPassed run command cuts.passed is;
     }
 
@@ -101,9 +101,9 @@ cuts_ended all rest segments run command cuts isnt is =
     let follows = or_right (is_passed (class_of command.code)) (ends_unit (class_of command.code)) isnt is in
     record {
       same = ap (λ (ss : List (List Command)). ss ++ segments_of rest) (with_some segments run command)
-        ∙ append_assoc segments ((run ++ command ∷ []) ∷ []) (segments_of rest)
-        ∙ ap (λ (ss : List (List Command)). segments ++ ss) (sym (run_with_end run command (segments_of rest) cuts.passed follows))
-        ∙ ap (λ (ss : List (List Command)). segments ++ run_before run ss) (sym first) ∙ cuts.same;
+          ∙ append_assoc segments ((run ++ command ∷ []) ∷ []) (segments_of rest)
+          ∙ ap (λ (ss : List (List Command)). segments ++ ss) (sym (run_with_end run command (segments_of rest) cuts.passed follows))
+          ∙ ap (λ (ss : List (List Command)). segments ++ run_before run ss) (sym first) ∙ cuts.same;
       passed = tt;
     }
 
@@ -122,8 +122,8 @@ cuts_apart all rest segments run command cuts isnt neither =
     let ends : EndsRun ((command ∷ []) ∷ segments_of rest) = or_false (is_passed (class_of command.code)) (ends_unit (class_of command.code)) isnt neither in
     record {
       same = append_assoc (with_run segments run) ((command ∷ []) ∷ []) (segments_of rest)
-        ∙ run_whole run segments ((command ∷ []) ∷ segments_of rest) cuts.passed ends
-        ∙ ap (λ (ss : List (List Command)). segments ++ run_before run ss) (sym first) ∙ cuts.same;
+          ∙ run_whole run segments ((command ∷ []) ∷ segments_of rest) cuts.passed ends
+          ∙ ap (λ (ss : List (List Command)). segments ++ run_before run ss) (sym first) ∙ cuts.same;
       passed = tt;
     }
 
@@ -155,9 +155,9 @@ pub cuts_on : (commands : List Command) (i : ℕ) (command : Command) (segments 
     Cuts commands (drop (i + 1) commands) segments_now run_now × (length run_now ≤ i + 1)
 cuts_on commands i command segments segments_now run run_now within is cuts small segments_is run_is =
     let here = subst (λ (cs : List Command). Cuts commands cs segments run) (rest_at commands i command within is) cuts in
-    let step = cuts_by commands (drop (i + 1) commands) segments run command (is_passed (class_of command.code)) (ends_unit (class_of command.code)) refl refl here in
-    let grows = run_grows segments run command (is_passed (class_of command.code)) (ends_unit (class_of command.code)) refl refl in
-    (
+    let step =
+    cuts_by commands (drop (i + 1) commands) segments run command (is_passed (class_of command.code)) (ends_unit (class_of command.code)) refl refl here in
+    let grows = run_grows segments run command (is_passed (class_of command.code)) (ends_unit (class_of command.code)) refl refl in (
       rw (segments_is, run_is) step,
       omega (arith, ap length run_is, grows, small),
     )

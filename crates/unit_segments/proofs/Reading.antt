@@ -1,5 +1,5 @@
 -- DSSs are read as chains, one after another.
-use Rattle.std.proofs.Common.{◌≡◌, ℕ, Bool, true, false, cond, List, [], ◌∷◌, ◌++◌, Option, Some, None, Result, Ok, refl, sym, ap, subst, ◌∙◌}
+use Rattle.std.proofs.Common.{◌≡◌, ℕ, true, false, cond, List, [], ◌∷◌, ◌++◌, Option, Some, None, Result, Ok, refl, sym, ap, subst, ◌∙◌}
 use Rattle.std.specs.Prelude.{IfOk}
 use Rattle.std.specs.Option.{option_or}
 use Rattle.std.proofs.lemmas.Result.{IfOk-weaker}
@@ -55,11 +55,11 @@ pub object_answer : (r shown : Result Command NoMemory) (commands : List Command
 object_answer r shown commands begun dest before old placed command same gone begun_is view fits all =
     let old_is : chain_in commands (Some command) before ≡ old = ap (λ (b : Option Command). chain_in commands b before) (sym begun_is) ∙ view in
     let now : order_fault (awaits.Object command.corr) before placed ≡ None =
-        subst (λ (o : OpenChain). order_fault o.awaited o.before placed ≡ None) (sym old_is) fits in
+    subst (λ (o : OpenChain). order_fault o.awaited o.before placed ≡ None) (sym old_is) fits in
     rw same (IfOk-weaker r _ _ (λ grown is.
-        ap (λ (d : Option Command). with_begun commands d ++ grown ∷ []) gone
-        ∙ grown_by_object commands command grown before placed now is
-        ∙ ap (λ (o : OpenChain). with_dss o.commands placed) old_is) all)
+    ap (λ (d : Option Command). with_begun commands d ++ grown ∷ []) gone
+    ∙ grown_by_object commands command grown before placed now is
+    ∙ ap (λ (o : OpenChain). with_dss o.commands placed) old_is) all)
 
 pub request_answer : (shown : Result Command NoMemory) (commands : List Command) (begun dest : Option Command) (before : ℕ) (old : OpenChain) (placed : Placed)
     (grown : Command) → shown ≡ Ok grown → dest ≡ None → begun ≡ None → chain_in commands begun before ≡ old →
@@ -68,11 +68,11 @@ pub request_answer : (shown : Result Command NoMemory) (commands : List Command)
 request_answer shown commands begun dest before old placed grown same gone begun_is view fits is =
     let old_is : chain_in commands None before ≡ old = ap (λ (b : Option Command). chain_in commands b before) (sym begun_is) ∙ view in
     let now : order_fault awaits.Command before placed ≡ None =
-        subst (λ (o : OpenChain). order_fault o.awaited o.before placed ≡ None) (sym old_is) fits in
+    subst (λ (o : OpenChain). order_fault o.awaited o.before placed ≡ None) (sym old_is) fits in
     let answer : with_begun commands dest ++ grown ∷ [] ≡ with_dss old.commands placed =
-        ap (λ (d : Option Command). with_begun commands d ++ grown ∷ []) gone
-        ∙ grown_by_request commands grown before placed now is
-        ∙ ap (λ (o : OpenChain). with_dss o.commands placed) old_is in
+    ap (λ (d : Option Command). with_begun commands d ++ grown ∷ []) gone
+    ∙ grown_by_request commands grown before placed now is
+    ∙ ap (λ (o : OpenChain). with_dss o.commands placed) old_is in
     rw same answer
 
 -- neither of them is there

@@ -4,7 +4,7 @@ use Rattle.std.specs.Prelude.{ℕ, ◌+◌, ◌==◌, Bool, true, false, ◌&&�
 use Rattle.std.specs.Prelude.{Option, Some, None, Result, Ok, Err}
 use Rattle.std.specs.Option.{option_or}
 use Rattle.dss_frame.specs.declared.dss.Kind.{Kind}
-use Rattle.dss_frame.specs.declared.dss.Kind.TheVariants.{Request, Reply, Object}
+use Rattle.dss_frame.specs.declared.dss.Kind.TheVariants.{Request, Object}
 use Rattle.dss_frame.specs.declared.dss.Dss.{Dss}
 use Rattle.dss_frame.specs.declared.dss.Placed.{Placed}
 use Rattle.dss_frame.specs.Reading.{further_on}

@@ -1,6 +1,6 @@
 -- The text of an SQL statement: DRDA, volume 3, SQLSTT, SQLATTR: a text in mixed bytes, and then one in single bytes, each of
 -- which may be absent. The four bytes of a length have the high byte first: this project's choice.
-use Rattle.std.specs.Prelude.{ℕ, ◌+◌, ◌==◌, ◌||◌, nat_lt, if◌then◌else◌, List, [], ◌∷◌, length, take, drop}
+use Rattle.std.specs.Prelude.{ℕ, ◌+◌, ◌==◌, nat_lt, if◌then◌else◌, List, [], ◌∷◌, length, take, drop}
 use Rattle.std.specs.Prelude.{Option, Some, None, unwrap_or}
 use Rattle.byteorder.specs.Endian.{big_number}
 

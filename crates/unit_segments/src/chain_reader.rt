@@ -154,7 +154,12 @@ impl ChainReader {
 
     /// Adds a command to the chain, which may get objects yet where the next DSS has the same number. Some is the chain
     /// that ends with it.
-    fn join(&mut self, command: Command, same: bool, chained: bool) -> Result<Option<Chain>, NoMemory>
+    fn join(
+        &mut self,
+        command: Command,
+        same: bool,
+        chained: bool,
+    ) -> Result<Option<Chain>, NoMemory>
         requires awaited { self.old.awaited ≡ awaits.Command }
         requires room { length self.old.commands < most_commands }
         ensures chain { IfOk result (λ chain. chain ≡ (if chained then None else Some (self.old.commands ++ command ∷ []))) }
@@ -197,7 +202,10 @@ fn command_fault(placed: &Placed) -> Option<ChainFault>
         return None;
     }
     let fault = body_fault(placed.dss.body.as_slice())?;
-    let at = placed.at.saturating_add(BODY).saturating_add(fault.before as u64);
+    let at = placed
+        .at
+        .saturating_add(BODY)
+        .saturating_add(fault.before as u64);
     Some(ChainFault::Syntax {
         at: at.saturating_add(fault.at as u64),
         err: fault.err,
