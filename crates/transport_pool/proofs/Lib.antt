@@ -2,3 +2,4 @@ pub mod Finding
 pub mod Keeps
 pub mod Zeros
 pub mod Running
+pub mod Leading

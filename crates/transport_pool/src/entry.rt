@@ -46,3 +46,10 @@ pub enum PoolAnswer {
     /// Nothing is handed out.
     Nothing,
 }
+
+/// A call of a pool with its answer.
+#[derive(Clone, Copy, Debug)]
+pub struct PoolEntry {
+    pub call: PoolCall,
+    pub answer: PoolAnswer,
+}

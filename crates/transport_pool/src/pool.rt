@@ -268,26 +268,26 @@ impl Pool {
 
     /// Takes a call.
     #[tactic(auto, unfolding(crate::specs::Steps::pool_step))]
-    pub fn step(&mut self, call: PoolCall) -> PoolAnswer
-        ensures { record { state = self.new; answer = result } ≡ pool_step self.old call }
+    pub fn step(&mut self, call: &PoolCall) -> PoolAnswer
+        ensures { record { state = self.new; answer = result } ≡ pool_step self.old call.now }
     {
         match call {
             PoolCall::Lend {
                 session,
                 tried,
                 fresh,
-            } => self.lend(session, tried, fresh),
-            PoolCall::GiveBack { number, member } => self.give(number, member),
+            } => self.lend(*session, *tried, *fresh),
+            PoolCall::GiveBack { number, member } => self.give(*number, *member),
             PoolCall::Lost { number } => {
-                self.lose(number);
+                self.lose(*number);
                 PoolAnswer::Nothing
             }
             PoolCall::Learn { list } => {
-                self.learn(&list);
+                self.learn(list);
                 PoolAnswer::Nothing
             }
             PoolCall::Leave { session } => {
-                self.leave(session);
+                self.leave(*session);
                 PoolAnswer::Nothing
             }
         }
