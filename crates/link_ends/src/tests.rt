@@ -63,19 +63,19 @@ fn a_part_stays_as_it_is_where_the_whole_grows(rt: HostRuntime) -> Result<(), Fa
 
 #[test]
 fn octets_are_cut_from_the_front(rt: HostRuntime) -> Result<(), Fail> {
-    let bytes = forty();
-    let grown = BytesMut::copy_from_slice(rt.alloc(), &bytes)?;
+    let letters = b"abcdefghijklmnopqrstuvwxyz0123456789";
+    let grown = BytesMut::copy_from_slice(rt.alloc(), letters)?;
     let mut octets = Octets::from_grown(grown);
-    assert_eq!(rt; octets.len(), 40);
-    assert_eq!(rt; octets.cut(2)?.as_slice(), &bytes[..2]);
-    assert_eq!(rt; octets.len(), 38);
-    assert_eq!(rt; octets.cut(30)?.as_slice(), &bytes[2..32]);
-    assert_eq!(rt; octets.as_slice(), &bytes[32..]);
-    let shared = Bytes::copy_from_slice(rt.alloc(), &bytes)?;
+    assert_eq!(rt; octets.len(), 36);
+    assert_eq!(rt; octets.cut(2)?.as_slice(), b"ab".as_slice());
+    assert_eq!(rt; octets.len(), 34);
+    assert_eq!(rt; octets.cut(30)?.as_slice(), b"cdefghijklmnopqrstuvwxyz012345".as_slice());
+    assert_eq!(rt; octets.as_slice(), b"6789".as_slice());
+    let shared = Bytes::copy_from_slice(rt.alloc(), letters)?;
     let mut octets = Octets::from_shared(rt.alloc(), shared);
-    assert_eq!(rt; octets.len(), 40);
-    assert_eq!(rt; octets.cut(30)?.as_slice(), &bytes[..30]);
-    assert_eq!(rt; octets.as_slice(), &bytes[30..]);
+    assert_eq!(rt; octets.len(), 36);
+    assert_eq!(rt; octets.cut(30)?.as_slice(), b"abcdefghijklmnopqrstuvwxyz0123".as_slice());
+    assert_eq!(rt; octets.as_slice(), b"456789".as_slice());
     Ok(())
 }
 
