@@ -5,13 +5,14 @@ use Rattle.std.proofs.Math.Seq.{take-add}
 use Rattle.std.proofs.lemmas.List.{append-nil, take-append-le, take-append-drop, length-take, length-take-le, length-append, length-drop, take_all}
 use Rattle.std.proofs.lemmas.Bool.{and_parts, cases_lt, leb-true}
 use Rattle.dss_frame.specs.declared.dss.Placed.{Placed}
-use Rattle.dss_frame.specs.declared.fault.FeedFault.{FeedFault}
+use Rattle.dss_frame.specs.declared.fault.StreamFault.{StreamFault}
 use Rattle.dss_frame.specs.Reading.{View, read_on, fed, behind}
 use Rattle.dss_frame.proofs.Pieces.{fed-append, fed-behind}
 use Rattle.dss_frame.specs.declared.dss.Dss.{Dss}
 use Rattle.std.specs.Int.{w16, to_be_bytes}
 use Rattle.dss_frame.specs.Dss.{canonical, segment_length, first_room, format_byte, further_segments}
 use Rattle.access_handshake.specs.Excsat.{excsat_answer}
+use Rattle.link_ends.proofs.Lists.{no_items}
 use Rattle.drda_gateway.specs.Answer.{answer_to, params_of, reply_dss, is_lone_request}
 use Rattle.drda_gateway.specs.declared.session.End.{End}
 use Rattle.drda_gateway.specs.Session.{SessionState, unread, fresh, put_in_work, past_requests, begun_with, begun, is_reading, next_piece, taken_more, said_part, said_more, appended}
@@ -50,7 +51,7 @@ taken_bytes s = take s.taken s.bytes
 pub record Reads (s : SessionState) : Type 0 where
   pub answered : List Placed
   pub read : fed unread (taken_bytes s) ≡ behind answered s.reader
-  pub replied : (others : List Placed) (fault : Option FeedFault) → replies_to (answered ++ others) fault ≡ (s.sent ++ s.saying) ++ replies_to others fault
+  pub replied : (others : List Placed) (fault : Option StreamFault) → replies_to (answered ++ others) fault ≡ (s.sent ++ s.saying) ++ replies_to others fault
   pub idle : s.saying ≡ [] → (s.reader.whole ≡ []) × (s.reader.fault ≡ None)
 
 abbrev pub Stands : Option End → SessionState → Type 0
@@ -68,7 +69,7 @@ pub record Rests (s : SessionState) : Type 0 where
   pub within : s.taken ≤ length s.bytes
   pub answered : List Placed
   pub read : fed unread (taken_bytes s) ≡ behind answered s.reader
-  pub replied : (others : List Placed) (fault : Option FeedFault) → replies_to (answered ++ others) fault ≡ s.sent ++ replies_to others fault
+  pub replied : (others : List Placed) (fault : Option StreamFault) → replies_to (answered ++ others) fault ≡ s.sent ++ replies_to others fault
 
 -- what a dedicated session sends, in terms of what is read and not answered
 dedicated_is : (s : SessionState) → (rests : Rests s) → dedicated (taken_bytes s) ≡ s.sent ++ replies_to s.reader.whole s.reader.fault
@@ -77,7 +78,7 @@ dedicated_is s rests =
     ap (λ (v : View). replies_to v.whole v.fault) rests.read ∙ rests.replied s.reader.whole s.reader.fault
 
 -- where no whole DSS is left
-past_follows : (s : SessionState) → Rests s → s.reader.whole ≡ [] → (fault : Option FeedFault) → s.reader.fault ≡ fault → Follows (past_requests fault s)
+past_follows : (s : SessionState) → Rests s → s.reader.whole ≡ [] → (fault : Option StreamFault) → s.reader.fault ≡ fault → Follows (past_requests fault s)
 past_follows s rests none None e = record {
   within = rests.within;
   stands =
@@ -91,7 +92,7 @@ past_follows s rests none None e = record {
 }
 past_follows s rests none (Some fault) e = record {
   within = rests.within;
-  stands = sym (dedicated_is s rests ∙ ap (λ (xs : List Placed). s.sent ++ replies_to xs s.reader.fault) none ∙ ap (λ (f : Option FeedFault). s.sent ++ replies_to [] f) e);
+  stands = sym (dedicated_is s rests ∙ ap (λ (xs : List Placed). s.sent ++ replies_to xs s.reader.fault) none ∙ ap (λ (f : Option StreamFault). s.sent ++ replies_to [] f) e);
 }
 
 -- where a request comes into work
@@ -183,10 +184,6 @@ part_follows s count (Some end) e follows more =
     let said : Stands (Some end) (said_part count s) = said_is s count ∙ stands in
     record { within = follows.within; stands = subst (λ (o : Option End). Stands o (said_part count s)) (sym e) said }
 
-pub no_bytes : (xs : List ℕ) → length xs ≤ 0 → xs ≡ []
-no_bytes [] h = refl
-no_bytes (x ∷ xs) h = absurd (omega (arith, h))
-
 pub is_none-is : (o : Option End) → is_none o ≡ true → o ≡ None
 is_none-is None e = refl
 is_none-is (Some x) e = absurd (cc)
@@ -194,7 +191,7 @@ is_none-is (Some x) e = absurd (cc)
 say_by : (s : SessionState) (count : ℕ) → Follows s → (reading : Bool) → is_reading (said_part count s) ≡ reading → Follows (cond reading (begun (said_part count s)) (said_part count s))
 say_by s count follows true e =
     let parts = and_parts (leb (length (said_part count s).saying) 0) (is_none s.ended) e in
-    let silent = no_bytes (said_part count s).saying (leb-true (length (said_part count s).saying) 0 parts.0) in
+    let silent = no_items (said_part count s).saying (leb-true (length (said_part count s).saying) 0 parts.0) in
     let goes_on = is_none-is s.ended parts.1 in
     let reads = reads_of s follows goes_on in
     let rests : Rests (said_part count s) = record {

@@ -6,34 +6,19 @@ use Rattle.std.proofs.lemmas.List.{append-nil}
 use Rattle.std.proofs.lemmas.Bool.{and_parts, leb-true}
 use Rattle.std.specs.List.{AllByRecursion}
 use Rattle.dss_frame.specs.declared.dss.Placed.{Placed}
-use Rattle.dss_frame.specs.declared.fault.FeedFault.{FeedFault}
+use Rattle.dss_frame.specs.declared.fault.StreamFault.{StreamFault}
 use Rattle.dss_frame.specs.Reading.{View}
 use Rattle.drda_gateway.specs.Session.{SessionState, fresh, is_reading, is_saying, can_take, taken_more, said_more, appended}
 use Rattle.drda_gateway.specs.World.{WorldState, Event, Append, Take, Say, start_world, session_at, changed, after, after_all, answer_entries, end_entries, newly_ended}
 use Rattle.drda_gateway.specs.declared.world.Entry.{Entry}
 use Rattle.drda_gateway.specs.declared.session.End.{End}
 use Rattle.drda_gateway.specs.Dedicated.{replies_to, dedicated, IsDedicated, AreDedicated}
-use Rattle.drda_gateway.proofs.Following.{Stands, Follows, take_follows, say_follows, append_follows, fresh_follows, no_bytes, is_none-is}
-
--- ---- lists of which each element has a property
-
-all_set : (P : SessionState → Type 0) (xs : List SessionState) (place : ℕ) (x : SessionState) → AllByRecursion P xs → P x → AllByRecursion P (set xs place x)
-all_set P [] place x all p = tt
-all_set P (y ∷ xs) zero x all p = (p, all.1)
-all_set P (y ∷ xs) (suc place) x all p = (all.0, all_set P xs place x all.1 p)
-
-all_get : (P : SessionState → Type 0) (xs : List SessionState) (place : ℕ) (x : SessionState) → AllByRecursion P xs → P x → P (get_or xs place x)
-all_get P [] place x all p = p
-all_get P (y ∷ xs) zero x all p = all.0
-all_get P (y ∷ xs) (suc place) x all p = all_get P xs place x all.1 p
+use Rattle.drda_gateway.proofs.Following.{Stands, Follows, take_follows, say_follows, append_follows, fresh_follows, is_none-is}
+use Rattle.link_ends.proofs.Lists.{all_set, all_get, all_weaker, no_items}
 
 all_replicate : (P : SessionState → Type 0) (count : ℕ) (x : SessionState) → P x → AllByRecursion P (replicate count x)
 all_replicate P zero x p = tt
 all_replicate P (suc count) x p = (p, all_replicate P count x p)
-
-all_weaker : (P Q : SessionState → Type 0) (xs : List SessionState) → ((x : SessionState) → P x → Q x) → AllByRecursion P xs → AllByRecursion Q xs
-all_weaker P Q [] h all = tt
-all_weaker P Q (x ∷ xs) h all = (h x all.0, all_weaker P Q xs h all.1)
 
 -- ---- each event keeps it
 
@@ -54,7 +39,7 @@ take_by w app count entries true e all =
     let reading = and_parts (is_reading s) (ltb s.taken (length s.bytes)) can.1 in
     let idle = and_parts (leb (length s.saying) 0) (is_none s.ended) reading.0 in
     changed_follow w app (taken_more count s) entries all
-    (take_follows s count (follows_at w app all) (no_bytes s.saying (leb-true (length s.saying) 0 idle.0)) (is_none-is s.ended idle.1))
+    (take_follows s count (follows_at w app all) (no_items s.saying (leb-true (length s.saying) 0 idle.0)) (is_none-is s.ended idle.1))
 
 say_by : (w : WorldState) (app count : ℕ) (entries : List Entry) (said : Bool) → AllFollow w → AllFollow (cond said (changed app (said_more count (session_at w app)) entries w) w)
 say_by w app count entries false all = all
@@ -91,7 +76,7 @@ all_sent_by s (Some end) stands silent = sym (ap (λ (xs : List ℕ). s.sent ++ 
 all_sent_by s None reads silent =
     let idle = reads.idle silent in
     let all = ap (λ (v : View). replies_to v.whole v.fault) reads.read ∙ reads.replied s.reader.whole s.reader.fault in
-    sym (all ∙ ap (λ (xs : List Placed). (s.sent ++ s.saying) ++ replies_to xs s.reader.fault) idle.0 ∙ ap (λ (f : Option FeedFault). (s.sent ++ s.saying) ++ replies_to [] f) idle.1
+    sym (all ∙ ap (λ (xs : List Placed). (s.sent ++ s.saying) ++ replies_to xs s.reader.fault) idle.0 ∙ ap (λ (f : Option StreamFault). (s.sent ++ s.saying) ++ replies_to [] f) idle.1
     ∙ append-nil (s.sent ++ s.saying) ∙ ap (λ (xs : List ℕ). s.sent ++ xs) silent ∙ append-nil s.sent)
 
 follows_is_dedicated : (s : SessionState) → Follows s → IsDedicated s

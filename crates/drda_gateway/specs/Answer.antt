@@ -6,8 +6,8 @@ use Rattle.dss_frame.specs.declared.dss.Kind.{Kind}
 use Rattle.dss_frame.specs.declared.dss.Kind.TheVariants.{Request, Reply, Object}
 use Rattle.dss_frame.specs.declared.fault.Why.{Why}
 use Rattle.dss_frame.specs.declared.fault.Why.TheVariants.{Short, NoD0, Format, Continue}
-use Rattle.dss_frame.specs.declared.fault.FeedFault.{FeedFault}
-use Rattle.dss_frame.specs.declared.fault.FeedFault.TheVariants.{Frame, TooLong, NoMemory}
+use Rattle.dss_frame.specs.declared.fault.StreamFault.{StreamFault}
+use Rattle.dss_frame.specs.declared.fault.StreamFault.TheVariants.{Frame, TooLong}
 use Rattle.dss_frame.specs.Dss.{canonical}
 use Rattle.ddm_objects.specs.declared.fault.ObjFault.{ObjFault}
 use Rattle.ddm_objects.specs.Objects.{Member, outer_of, canonical_object}
@@ -82,9 +82,8 @@ limit_reply corr = canonical (lone Reply corr (canonical_object 0x1233 severity)
 abbrev pub refusal : List ℕ
 refusal = syntax_reply 0 0x04
 
--- What a reader's fault is answered, with its correlation number: a chain beyond the limit has RSCLMTRM. Want of memory is
--- no fault that a reader keeps. DDM, volume 3, SYNTAXRM and RSCLMTRM.
-abbrev pub fault_reply : FeedFault → List ℕ
+-- What a reader's fault is answered, with its correlation number: a chain beyond the limit has RSCLMTRM. DDM, volume 3,
+-- SYNTAXRM and RSCLMTRM.
+abbrev pub fault_reply : StreamFault → List ℕ
 fault_reply (Frame at why corr) = syntax_reply corr (syntax_error why)
 fault_reply (TooLong at corr) = limit_reply corr
-fault_reply NoMemory = limit_reply 0

@@ -3,7 +3,7 @@
 use Rattle.std.specs.Prelude.{ℕ, List, [], ◌∷◌, ◌++◌, ◌≡◌, length, take, Option, Some, None}
 use Rattle.std.specs.List.{AllByRecursion}
 use Rattle.dss_frame.specs.declared.dss.Placed.{Placed}
-use Rattle.dss_frame.specs.declared.fault.FeedFault.{FeedFault}
+use Rattle.dss_frame.specs.declared.fault.StreamFault.{StreamFault}
 use Rattle.dss_frame.specs.declared.dss.Side.TheVariants.{Requests}
 use Rattle.dss_frame.specs.Reading.{start, fed}
 use Rattle.drda_gateway.specs.Answer.{most_chain, answer_to, refusal, fault_reply}
@@ -11,7 +11,7 @@ use Rattle.drda_gateway.specs.Session.{SessionState}
 use Rattle.drda_gateway.specs.World.{WorldState}
 
 -- what is sent behind the last whole DSS
-abbrev pub closing : Option FeedFault → List ℕ
+abbrev pub closing : Option StreamFault → List ℕ
 closing None = []
 closing (Some fault) = fault_reply fault
 
@@ -20,7 +20,7 @@ reply_or_close None others = refusal
 reply_or_close (Some reply) others = reply ++ others
 
 -- the replies to DSSs in their order, and then the closing one; a refused DSS is the last that is answered
-abbrev pub replies_to : List Placed → Option FeedFault → List ℕ
+abbrev pub replies_to : List Placed → Option StreamFault → List ℕ
 replies_to [] fault = closing fault
 replies_to (placed ∷ others) fault = reply_or_close (answer_to placed.dss) (replies_to others fault)
 

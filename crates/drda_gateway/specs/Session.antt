@@ -3,8 +3,8 @@
 use Rattle.std.specs.Prelude.{ℕ, List, [], ◌∷◌, ◌++◌, ◌+◌, ◌&&◌, Bool, true, false, length, take, drop, nat_lt, nat_le, is_some, is_none, if◌then◌else◌, Option, Some, None}
 use Rattle.dss_frame.specs.declared.dss.Side.TheVariants.{Requests}
 use Rattle.dss_frame.specs.declared.dss.Placed.{Placed}
-use Rattle.dss_frame.specs.declared.fault.FeedFault.{FeedFault}
-use Rattle.dss_frame.specs.declared.fault.FeedFault.TheVariants.{Frame, TooLong, NoMemory}
+use Rattle.dss_frame.specs.declared.fault.StreamFault.{StreamFault}
+use Rattle.dss_frame.specs.declared.fault.StreamFault.TheVariants.{Frame, TooLong}
 use Rattle.dss_frame.specs.Reading.{View, start, fed}
 use Rattle.drda_gateway.specs.Answer.{most_chain, answer_to, refusal, fault_reply}
 use Rattle.drda_gateway.specs.declared.session.End.{End}
@@ -49,10 +49,9 @@ abbrev pub need_of : SessionState → Need
 need_of s = if is_saying s then Say else (if is_some s.ended then Done else App)
 
 -- how a reader's fault ends a session
-abbrev pub end_by : FeedFault → End
+abbrev pub end_by : StreamFault → End
 end_by (Frame at why corr) = Refused at
 end_by (TooLong at corr) = Limit
-end_by NoMemory = Limit
 
 -- the session ends, with this reply
 abbrev pub closed : End → List ℕ → SessionState → SessionState
@@ -64,7 +63,7 @@ put_in_work at (Some reply) s = record s { saying = reply }
 put_in_work at None s = closed (Refused at) refusal s
 
 -- no whole DSS is left; a fault may stand behind the last one
-abbrev pub past_requests : Option FeedFault → SessionState → SessionState
+abbrev pub past_requests : Option StreamFault → SessionState → SessionState
 past_requests None s = s
 past_requests (Some fault) s = closed (end_by fault) (fault_reply fault) s
 

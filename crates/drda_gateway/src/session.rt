@@ -4,7 +4,7 @@ ghost use Rattle.drda_gateway.specs.Session.{appended, begun, can_take, closed, 
 ghost use Rattle.drda_gateway.specs.Answer.{fault_reply};
 
 use crate::answer::{NOT_SUPPORTED, answer, limit_reply, syntax_error, syntax_reply};
-use dss_frame::{FeedFault, Reader, Side};
+use dss_frame::{FeedFault, Reader, Side, StreamFault};
 use link_ends::{NoMemory, Octets};
 use std::alloc::Global;
 use std::marker::Model;
@@ -40,7 +40,6 @@ pub struct Session {
     bytes: Octets,
     taken: usize,
     reader: Reader,
-    fault: Option<FeedFault>,
     reply: Octets,
     said: usize,
     sent: Octets,
@@ -64,7 +63,7 @@ impl Model for Session {
       ended = s.ended;
     } };
 
-    ghost invariant = { λ s. (s.taken ≤ length s.bytes) × (s.said ≤ length s.reply) × (s.fault ≡ s.reader.fault) × (s.reader.limit ≡ most_chain) };
+    ghost invariant = { λ s. (s.taken ≤ length s.bytes) × (s.said ≤ length s.reply) × (s.reader.limit ≡ most_chain) };
 }
 
 impl Session {
@@ -78,7 +77,6 @@ impl Session {
             bytes: Octets::new(alloc),
             taken: 0,
             reader: Reader::new(alloc, Side::Requests, MOST_CHAIN),
-            fault: None,
             reply: Octets::new(alloc),
             said: 0,
             sent: Octets::new(alloc),
@@ -165,10 +163,8 @@ impl Session {
         let left = self.bytes.len() - self.taken;
         let end = self.taken + count.min(left);
         let fed = self.reader.feed(&self.bytes.as_slice()[self.taken..end]);
-        match fed {
-            Ok(()) => self.fault = None,
-            Err(FeedFault::NoMemory) => return Err(NoMemory),
-            Err(fault) => self.fault = Some(fault),
+        if let Err(FeedFault::NoMemory) = fed {
+            return Err(NoMemory);
         }
         self.taken = end;
         self.begin()
@@ -206,7 +202,7 @@ impl Session {
                 )?,
             },
             None => {
-                if let Some(fault) = self.fault {
+                if let Some(fault) = self.reader.fault() {
                     self.stop(fault)?;
                 }
             }
@@ -215,16 +211,15 @@ impl Session {
     }
 
     /// Ends the session for a fault of its reader.
-    fn stop(&mut self, fault: FeedFault) -> Result<(), NoMemory>
+    fn stop(&mut self, fault: StreamFault) -> Result<(), NoMemory>
         ensures { OnOk result (self.new ≡ closed (end_by fault) (fault_reply fault) self.old) }
     {
         match fault {
-            FeedFault::Frame { at, why, corr } => self.close(
+            StreamFault::Frame { at, why, corr } => self.close(
                 End::Refused { place: at },
                 &syntax_reply(corr, syntax_error(why)),
             ),
-            FeedFault::TooLong { corr, .. } => self.close(End::Limit, &limit_reply(corr)),
-            FeedFault::NoMemory => Err(NoMemory),
+            StreamFault::TooLong { corr, .. } => self.close(End::Limit, &limit_reply(corr)),
         }
     }
 
