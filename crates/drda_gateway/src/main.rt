@@ -14,6 +14,7 @@ mod std_ends;
 mod tests;
 mod world;
 
+use link_ends::NoMemory;
 use play::play;
 use std::process::ExitCode;
 use std::{env, io};
@@ -22,10 +23,20 @@ use std_ends::{StdSink, StdSource};
 /// The status of a program that finds no memory for its words.
 const NO_MEMORY: u8 = 5;
 
-/// The words after the program's name.
-fn words(rt: &HostRuntime) -> io::Result<Vec<String>> {
+/// The words after the program's name. A word that isn't UTF-8 is no word of any command, and neither is a list that has
+/// one: no words stand for it.
+fn words(rt: &HostRuntime) -> Result<Vec<String>, NoMemory> {
     let mut words = Vec::new(rt.alloc());
-    for word in env::args(rt)?.skip(1) {
+    let args = match env::args(rt) {
+        Ok(args) => args,
+        Err(error) => {
+            return match error.kind() {
+                io::ErrorKind::InvalidData => Ok(words),
+                _ => Err(NoMemory),
+            };
+        }
+    };
+    for word in args.skip(1) {
         words.push(word)?;
     }
     Ok(words)
