@@ -1,5 +1,5 @@
 -- What each status of play says. No standard speaks of it.
-use Rattle.std.specs.Prelude.{ℕ, List, [], ◌∷◌, ◌++◌, ◌≡◌, ◌≤◌, ◌⊎◌, Result, Ok, Err, length, codes}
+use Rattle.std.specs.Prelude.{ℕ, List, [], ◌∷◌, ◌++◌, ◌≡◌, Result, Ok, Err, true, codes}
 use Rattle.std.specs.Fmt.{decimal}
 use Rattle.drda_gateway.specs.declared.script.ScriptWhy.{ScriptWhy}
 use Rattle.drda_gateway.specs.declared.script.ScriptWhy.TheVariants.{Word, Order, Field, Long}
@@ -9,8 +9,8 @@ use Rattle.link_ends.specs.Source.{SourceState}
 use Rattle.link_ends.specs.Sink.{SinkState}
 use Rattle.drda_gateway.specs.Refusal.{Refusal}
 use Rattle.drda_gateway.specs.ScriptText.{ScriptText}
-use Rattle.drda_gateway.specs.Script.{script_of, most}
-use Rattle.drda_gateway.specs.Ends.{Gave, IsWhole, Took, TookSome, Stopped}
+use Rattle.drda_gateway.specs.Script.{script_of}
+use Rattle.drda_gateway.specs.Ends.{WasRead, WasReadUp, Took, BrokeOff, Offered}
 use Rattle.drda_gateway.specs.World.{world_of}
 use Rattle.drda_gateway.specs.Report.{report_of, line_end}
 use Rattle.drda_gateway.specs.Dedicated.{AreDedicated}
@@ -20,7 +20,7 @@ abbrev pub play_words : List (List ℕ)
 play_words = codes "play" ∷ []
 
 abbrev pub usage_text : List ℕ
-usage_text = codes "usage: drda_gateway play [--brief]" ++ line_end
+usage_text = codes "usage: drda_gateway play" ++ line_end
 
 abbrev pub why_word : ScriptWhy → List ℕ
 why_word Word = codes "word"
@@ -30,10 +30,6 @@ why_word Long = codes "long"
 
 abbrev pub refusal_text : Refusal → List ℕ
 refusal_text refusal = codes "script refused: line " ++ (decimal refusal.line ++ (codes " " ++ (why_word refusal.why ++ line_end)))
-
--- a sink took all of the text, or a call of it failed or stuck and it took the first bytes
-abbrev pub Offered : SinkState → SinkState → List ℕ → Type 0
-Offered old new text = Took old new text ⊎ (TookSome old new text × Stopped old new)
 
 -- The report of the script that a text is, or why it is refused; nothing is said where memory ran out.
 abbrev pub Reports : Result (List ℕ) ScriptFault → List ℕ → Type 0
@@ -46,8 +42,7 @@ Reports (Err NoMemory) text = Unit {0}
 pub record Played (source source_now : SourceState) (sink sink_now : SinkState) : Type 0 where
   pub text : List ℕ
   pub script : ScriptText
-  pub gave : Gave source source_now text
-  pub whole : IsWhole source source_now text
+  pub read : WasRead true source source_now text
   pub is_script : script_of text ≡ Ok script
   pub took : Took sink sink_now (report_of (world_of script.lines))
   pub dedicated : AreDedicated (world_of script.lines)
@@ -56,16 +51,14 @@ pub record Played (source source_now : SourceState) (sink sink_now : SinkState) 
 pub record RefusedScript (source source_now : SourceState) (sink sink_now : SinkState) : Type 0 where
   pub text : List ℕ
   pub refusal : Refusal
-  pub gave : Gave source source_now text
-  pub whole : length text ≤ most → IsWhole source source_now text
+  pub read : WasReadUp source source_now text
   pub is_refused : script_of text ≡ Err refusal
   pub told : Offered sink sink_now (refusal_text refusal)
 
--- The source gave a script, and the sink the first bytes of its report.
+-- The source was read to its end, and the sink took fewer bytes than the report has of the script that it gave.
 pub record BegunReport (source source_now : SourceState) (sink sink_now : SinkState) : Type 0 where
   pub text : List ℕ
   pub script : ScriptText
-  pub gave : Gave source source_now text
-  pub whole : IsWhole source source_now text
+  pub read : WasRead true source source_now text
   pub is_script : script_of text ≡ Ok script
-  pub took : TookSome sink sink_now (report_of (world_of script.lines))
+  pub begun : BrokeOff sink sink_now (report_of (world_of script.lines))

@@ -1,5 +1,5 @@
-ghost use Rattle.std.specs.Prelude.{◌≡◌, ◌≤◌, length, IfOk, IfErr};
-ghost use Rattle.drda_gateway.specs.Ends.{Gave, IsWhole, ReadFails};
+ghost use Rattle.std.specs.Prelude.{◌≡◌, IfOk, IfErr};
+ghost use Rattle.drda_gateway.specs.Ends.{WasReadUp, ReadFails};
 
 use crate::script::MOST_BYTES;
 use link_ends::{NoMemory, Octets, Source};
@@ -24,10 +24,10 @@ impl From<NoMemory> for ReadError {
     }
 }
 
-/// Reads a source to its end, or until it has given more bytes than a script may have.
+/// Reads a source to its end, or until it has given more bytes than a script may have. A call that fails ends it, and so
+/// does want of memory.
 pub fn read_all<S: Source>(alloc: Global, source: &mut S) -> Result<Octets, ReadError>
-    ensures gave { IfOk result (λ text. Gave (S.state source.old) (S.state source.new) text) }
-    ensures whole { IfOk result (λ text. length text ≤ MOST_BYTES → IsWhole (S.state source.old) (S.state source.new) text) }
+    ensures read { IfOk result (λ text. WasReadUp (S.state source.old) (S.state source.new) text) }
     ensures fails { IfErr result (λ e. ReadFails (S.state source.old) (S.state source.new) e) }
 {
     let mut text = Octets::new(alloc);

@@ -1,13 +1,12 @@
 ghost use Rattle.std.specs.Prelude.{OnOk, OnErr};
-ghost use Rattle.drda_gateway.specs.Ends.{Stopped, Took, TookSome};
+ghost use Rattle.drda_gateway.specs.Ends.{Took, BrokeOff};
 
 use link_ends::{Failed, Sink};
 
 /// Writes all of `text`, in as many calls as the sink needs. A call that fails, or takes nothing, ends it.
 pub fn write_all<K: Sink>(sink: &mut K, text: &[u8]) -> Result<(), Failed>
     ensures took { OnOk result (Took (K.state sink.old) (K.state sink.new) text.now) }
-    ensures began { OnErr result (TookSome (K.state sink.old) (K.state sink.new) text.now) }
-    ensures stopped { OnErr result (Stopped (K.state sink.old) (K.state sink.new)) }
+    ensures broke_off { OnErr result (BrokeOff (K.state sink.old) (K.state sink.new) text.now) }
 {
     let mut from = 0;
     while from < text.len() {

@@ -1,9 +1,9 @@
-ghost use Rattle.std.specs.Prelude.{◌≡◌, ◌≢◌, ◌≤◌, ◌↔◌, ◌⊎◌, ℕ, List, Some, Ok, IsTrue, IfOk, map, string_bytes};
-ghost use Rattle.link_ends.specs.Counts.{Rose};
-ghost use Rattle.drda_gateway.specs.Ends.{Stopped};
+ghost use Rattle.std.specs.Prelude.{◌≡◌, ◌≢◌, ◌≤◌, ◌↔◌, ◌⊎◌, ℕ, List, Some, Ok, Err, IsTrue, IfOk, map, string_bytes};
+ghost use Rattle.drda_gateway.specs.Ends.{NoReadFailed, NoWriteFailed, Offered, ReadBrokeOff, ReadSome};
+ghost use Rattle.drda_gateway.specs.Refusal.{Refusal};
 ghost use Rattle.drda_gateway.specs.ScriptText.{ScriptText};
 ghost use Rattle.drda_gateway.specs.Script.{script_of};
-ghost use Rattle.drda_gateway.specs.Play.{play_words, usage_text, refusal_text, Offered, Played, RefusedScript, BegunReport, Reports};
+ghost use Rattle.drda_gateway.specs.Play.{play_words, usage_text, refusal_text, Played, RefusedScript, BegunReport, Reports};
 
 use crate::input::{ReadError, read_all};
 use crate::output::write_all;
@@ -14,7 +14,7 @@ use link_ends::{NoMemory, Octets, Sink, Source};
 use std::alloc::Global;
 
 /// What `play` is called with, as its users are told.
-const USAGE: &[u8] = b"usage: drda_gateway play [--brief]\n";
+const USAGE: &[u8] = b"usage: drda_gateway play\n";
 
 /// How `play` ends. Its number is the status of the program.
 #[derive(Clone, Copy, Debug, PartialEq, Eq)]
@@ -43,20 +43,23 @@ pub fn play<S: Source, K: Sink>(alloc: Global, words: &[String], source: &mut S,
     ensures usage { result ≡ 1 → map string_bytes words.now ≢ play_words }
     ensures words { result ≢ 1 → map string_bytes words.now ≡ play_words }
     ensures usage_told { result ≡ 1 → Offered (K.state sink.old) (K.state sink.new) usage_text }
-    ensures unread { result ≡ 1 → (S.state source.new).left ≡ (S.state source.old).left }
+    ensures unread { result ≡ 1 → S.state source.new ≡ S.state source.old }
     ensures refused { result ≡ 2 → RefusedScript (S.state source.old) (S.state source.new) (K.state sink.old) (K.state sink.new) }
-    ensures source_fault { result ≡ 3 → Rose (S.state source.old).faults (S.state source.new).faults }
-    ensures sink_fault { result ≡ 4 → Stopped (K.state sink.old) (K.state sink.new) }
-    ensures begun { result ≡ 4 → BegunReport (S.state source.old) (S.state source.new) (K.state sink.old) (K.state sink.new) }
-    ensures unwritten { (result ≡ 3) ⊎ (result ≡ 5) → (K.state sink.new).taken ≡ (K.state sink.old).taken }
+    ensures source_fault { result ≡ 3 → ReadBrokeOff (S.state source.old) (S.state source.new) }
+    ensures sink_fault { result ≡ 4 → BegunReport (S.state source.old) (S.state source.new) (K.state sink.old) (K.state sink.new) }
+    ensures no_memory { result ≡ 5 → ReadSome (S.state source.old) (S.state source.new) }
+    ensures unwritten { (result ≡ 3) ⊎ (result ≡ 5) → K.state sink.new ≡ K.state sink.old }
     ensures statuses { result ≤ 5 }
 
     // A script that is read without a fault, and whose report is taken, is played.
-    ensures complete { (text : List ℕ) (script : ScriptText) → (S.state source.old).left ≡ Some text → script_of text ≡ Ok script
-        → map string_bytes words.now ≡ play_words
-        → (Rose (S.state source.old).faults (S.state source.new).faults → ⊥)
-        → (Stopped (K.state sink.old) (K.state sink.new) → ⊥)
-        → (result ≡ 0) ⊎ (result ≡ 5) }
+    ensures plays { (text : List ℕ) (script : ScriptText) → (S.state source.old).left ≡ Some text → script_of text ≡ Ok script
+        → map string_bytes words.now ≡ play_words → NoReadFailed (S.state source.old) (S.state source.new)
+        → NoWriteFailed (K.state sink.old) (K.state sink.new) → (result ≡ 0) ⊎ (result ≡ 5) }
+
+    // A text that is read without a fault and is none is refused, whatever the sink takes.
+    ensures refuses { (text : List ℕ) (refusal : Refusal) → (S.state source.old).left ≡ Some text → script_of text ≡ Err refusal
+        → map string_bytes words.now ≡ play_words → NoReadFailed (S.state source.old) (S.state source.new)
+        → (result ≡ 2) ⊎ (result ≡ 5) }
 {
     if !are_play_words(words) {
         offer(sink, USAGE);

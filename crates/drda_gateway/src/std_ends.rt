@@ -3,10 +3,15 @@ ghost use Rattle.std.specs.Prelude.{◌≡◌, None};
 use link_ends::{Failed, Sink, Source};
 use std::io::{Read, Write};
 
-/// A reader as a source. It tells no bytes; its counts begin at 0.
+/// How many bytes a source reads at most in one call.
+const PIECE: usize = 4096;
+
+/// A reader as a source. It tells no bytes; its counts begin at 0. A reader may write behind the bytes that it read, so it
+/// reads into a piece of the source's own.
 #[derive(Drop)]
 pub struct StdSource<R: Read + Drop> {
     input: R,
+    piece: [u8; PIECE],
     faults: u64,
     ends: u64,
 }
@@ -19,6 +24,7 @@ impl<R: Read + Drop> StdSource<R> {
     {
         StdSource {
             input,
+            piece: [0; PIECE],
             faults: 0,
             ends: 0,
         }
@@ -29,11 +35,14 @@ impl<R: Read + Drop> Source for StdSource<R> {
     ghost state = { λ s. record { left = None; faults = s.faults; ends = s.ends } };
 
     fn read(&mut self, buf: &mut [u8]) -> Result<usize, Failed> {
-        match self.input.read(buf) {
+        let piece = &mut self.piece[..];
+        let most = buf.len().min(piece.len());
+        match self.input.read(&mut piece[..most]) {
             Ok(count) => {
                 if count == 0 && !buf.is_empty() {
                     self.ends = self.ends.saturating_add(1);
                 }
+                buf[..count].copy_from_slice(&self.piece[..count]);
                 Ok(count)
             }
             Err(_) => {

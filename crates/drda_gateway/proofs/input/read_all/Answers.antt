@@ -1,10 +1,25 @@
-use Rattle.std.proofs.Common.{arith, rules}
+use Rattle.std.proofs.Common.{◌≡◌, ◌++◌, List, ℕ, false, take, subst, sym, arith, rules}
 use Rattle.link_ends.specs.Source.{SourceState}
-use Rattle.drda_gateway.proofs.Ends.{whole_at_end}
+use Rattle.drda_gateway.specs.Ends.{ReadSome}
+use Rattle.drda_gateway.proofs.Ends.{GoesOn, goes_on_more, was_read_some}
 use Rattle.drda_gateway.proofs.input.read_all.Goals as goal
 
-pub returns-then-count-eq0-clause-whole : goal.returns-then-count-eq0-clause-whole
-returns-then-count-eq0-clause-whole g c = λ _.
+pub loop-buf-preserved : goal.loop-buf-preserved
+loop-buf-preserved g c =
     let old : SourceState = g.S.Source.state c.args.source.now in
-    let now : SourceState = g.S.Source.state c.loop-buf.source in
-    (whole_at_end old now c.loop-buf.text c.loop-buf.invariant.gave (c.in-Ok.ensures.all_read c.if-count-eq0.true (omega arith)), search rules)
+    let before : SourceState = g.S.Source.state c.loop-buf.source in
+    let now : SourceState = g.S.Source.state c.read.new.self in
+    let more : GoesOn old now (c.loop-buf.text ++ take c.in-Ok.count c.read.new.buf) =
+    goes_on_more old before now c.loop-buf.text c.loop-buf.buf c.read.new.buf c.in-Ok.count c.loop-buf.invariant.run c.in-Ok.ensures c.if-count-eq0.false in
+    let is : c.push_all.new.self ≡ c.loop-buf.text ++ take c.in-Ok.count c.read.new.buf = grind (arith, c.in_ok-push_all.ensures.ok) in
+    record { buffer = search rules; run = subst (λ (t : List ℕ). GoesOn old now t) (sym is) more }
+
+pub returns-in_err-push_all-clause-fails : goal.returns-in_err-push_all-clause-fails
+returns-in_err-push_all-clause-fails g c =
+    let old : SourceState = g.S.Source.state c.args.source.now in
+    let before : SourceState = g.S.Source.state c.loop-buf.source in
+    let now : SourceState = g.S.Source.state c.read.new.self in
+    let more : GoesOn old now (c.loop-buf.text ++ take c.in-Ok.count c.read.new.buf) =
+    goes_on_more old before now c.loop-buf.text c.loop-buf.buf c.read.new.buf c.in-Ok.count c.loop-buf.invariant.run c.in-Ok.ensures c.if-count-eq0.false in
+    let some : ReadSome old now = (false, c.loop-buf.text ++ take c.in-Ok.count c.read.new.buf, was_read_some old now _ more) in
+    search (rules, some)

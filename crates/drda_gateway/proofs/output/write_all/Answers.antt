@@ -1,6 +1,6 @@
-use Rattle.std.proofs.Common.{arith, rules, subst, length, List, ℕ}
+use Rattle.std.proofs.Common.{arith, rules, length}
 use Rattle.std.proofs.lemmas.Slice.{between_to_end}
-use Rattle.link_ends.specs.Sink.{SinkState, Takes}
+use Rattle.link_ends.specs.Sink.{SinkState}
 use Rattle.drda_gateway.proofs.Ends.{took_more}
 use Rattle.drda_gateway.proofs.output.write_all.Goals as goal
 
@@ -11,7 +11,6 @@ loop-from-preserved g c =
     let now : SinkState = g.K.Sink.state c.write.new.self in
     record {
       within = search rules;
-      took = took_more old before now c.args.text.now c.loop-from.from c.in_ok-count.count c.loop-from.invariant.took (subst (λ (p : List ℕ). Takes before now c.in_ok-count.count p) (between_to_end c.args.text.now c.loop-from.from (length c.args.text.now) (omega arith)) c.in_ok-count.ensures.bytes);
-      faults = search rules;
-      stuck = search rules;
+      took = took_more old before now c.args.text.now _ c.loop-from.from c.in_ok-count.count c.loop-from.invariant.took c.in_ok-count.ensures
+          (between_to_end c.args.text.now c.loop-from.from (length c.args.text.now) (omega arith)) c.if-count-eq0.false;
     }

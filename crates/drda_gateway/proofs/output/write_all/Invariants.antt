@@ -2,16 +2,12 @@ use Rattle.std.proofs.Common.{length, take, ◌-◌, ◌≤◌}
 use Rattle.drda_gateway.specs.Ends.{Took}
 use Rattle.drda_gateway.proofs.output.write_all.Given as goal
 
--- the text up to this place was taken, and no call has failed or stuck since
+-- the text up to this place was taken, and no write has failed or was stuck
 abbrev pub invariant-loop-from : goal.invariant-loop-from
 invariant-loop-from g l =
-    let old = g.K.Sink.state l.fn.sink in
-    let now = g.K.Sink.state l.sink in
     record {
       within : l.from ≤ length l.text;
-      took : Took old now (take l.from l.text);
-      faults : old.faults ≤ now.faults;
-      stuck : old.stuck ≤ now.stuck;
+      took : Took (g.K.Sink.state l.fn.sink) (g.K.Sink.state l.sink) (take l.from l.text);
     }
 
 abbrev pub decreases-loop-from : goal.decreases-loop-from
