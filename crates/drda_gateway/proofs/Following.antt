@@ -7,7 +7,7 @@ use Rattle.std.proofs.lemmas.Bool.{and_parts, cases_lt, leb-true}
 use Rattle.dss_frame.specs.declared.dss.Placed.{Placed}
 use Rattle.dss_frame.specs.declared.fault.StreamFault.{StreamFault}
 use Rattle.dss_frame.specs.Reading.{View, read_on, fed, behind}
-use Rattle.dss_frame.proofs.Pieces.{fed-append, fed-behind}
+use Rattle.dss_frame.proofs.Pieces.Pieces.{fed-append, fed-behind}
 use Rattle.dss_frame.specs.declared.dss.Dss.{Dss}
 use Rattle.std.specs.Int.{w16, to_be_bytes}
 use Rattle.dss_frame.specs.Dss.{canonical, segment_length, first_room, format_byte, further_segments}
