@@ -4,7 +4,8 @@ use Rattle.byteorder.specs.Endian.{big_number}
 use Rattle.access_handshake.specs.Managers.{managers_of}
 
 -- the first manager, and the others
-pub managers_more : (list : List ℕ) → 4 ≤ length list → managers_of list ≡ record { code = big_number 2 list; level = big_number 2 (drop 2 list) } ∷ managers_of (drop 4 list)
+pub managers_more : (list : List ℕ) → 4 ≤ length list →
+    managers_of list ≡ record { code = big_number 2 list; level = big_number 2 (drop 2 list) } ∷ managers_of (drop 4 list)
 managers_more [] h = absurd (omega (arith, h))
 managers_more (a ∷ []) h = absurd (omega (arith, h))
 managers_more (a ∷ b ∷ []) h = absurd (omega (arith, h))

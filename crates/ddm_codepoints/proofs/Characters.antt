@@ -1,5 +1,6 @@
 -- The runs of the code are the characters of the definitions, in both directions.
-use Rattle.std.proofs.Common.{◌≡◌, ℕ, zero, suc, ◌+◌, ◌-◌, ◌<◌, ◌≤◌, ◌&&◌, Bool, true, nat_eq, nat_lt, nat_le, find, Option, None, Some, option_map, refl, ap, arith, eqb-true, ltb-true, leb-true, inl, inr}
+use Rattle.std.proofs.Common.{◌≡◌, ℕ, zero, suc, ◌+◌, ◌-◌, ◌<◌, ◌≤◌, ◌&&◌, Bool, true, nat_eq, nat_lt, nat_le, find, Option, None, Some, option_map}
+use Rattle.std.proofs.Common.{refl, ap, arith, eqb-true, ltb-true, leb-true, inl, inr}
 use Rattle.std.proofs.lemmas.Bool.{cases_eq}
 use Rattle.std.specs.Option.{option_eq}
 use Rattle.std.proofs.lemmas.Bool.{and_parts}

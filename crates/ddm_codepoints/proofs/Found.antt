@@ -3,7 +3,8 @@ use Rattle.std.proofs.Common.{◌≡◌, Bool, true, false, cond, List, [], ◌�
 use Rattle.std.specs.List.{list_all}
 use Rattle.std.proofs.lemmas.Bool.{and_parts}
 
-pub found_passes : {X : Type 0} (p q : X → Bool) (elements : List X) (found : X) → list_all q elements ≡ true → Some found ≡ find p elements → (p found ≡ true) × (q found ≡ true)
+pub found_passes : {X : Type 0} (p q : X → Bool) (elements : List X) (found : X) → list_all q elements ≡ true → Some found ≡ find p elements →
+    (p found ≡ true) × (q found ≡ true)
 found_passes p q [] found all e = absurd (cc)
 found_passes {X = X} p q (first ∷ elements) found all e =
     let both = and_parts (q first) (list_all q elements) all in

@@ -1,5 +1,6 @@
 -- A name with spaces behind it, one character after another.
-use Rattle.std.proofs.Common.{◌≡◌, ℕ, suc, ◌+◌, ◌-◌, ◌<◌, ◌≤◌, List, [], ◌∷◌, ◌++◌, length, map, take, replicate, get_or, refl, sym, ◌∙◌, ap, arith, append_assoc, slice_set}
+use Rattle.std.proofs.Common.{◌≡◌, ℕ, suc, ◌+◌, ◌-◌, ◌<◌, ◌≤◌, List, [], ◌∷◌, ◌++◌, length, map, take, replicate, get_or, refl, sym, ◌∙◌, ap, arith}
+use Rattle.std.proofs.Common.{append_assoc, slice_set}
 use Rattle.std.proofs.lemmas.List.{set-append_right, take_more, length-take}
 use Rattle.ddm_codepoints.specs.Character.{space}
 
@@ -15,7 +16,9 @@ pub length_mapped : (f : ℕ → ℕ) (bytes : List ℕ) → length (map f bytes
 length_mapped f [] = refl
 length_mapped f (byte ∷ bytes) = ap suc (length_mapped f bytes)
 
-pub padded_more : (f : ℕ → ℕ) (name padded : List ℕ) (i : ℕ) → i < length name → length name ≤ 18 → padded ≡ map f (take i name) ++ replicate (18 - i) space → slice_set padded i (f (get_or name i 0)) ≡ map f (take (i + 1) name) ++ replicate (18 - (i + 1)) space
+pub padded_more : (f : ℕ → ℕ) (name padded : List ℕ) (i : ℕ) → i < length name → length name ≤ 18 →
+    padded ≡ map f (take i name) ++ replicate (18 - i) space →
+    slice_set padded i (f (get_or name i 0)) ≡ map f (take (i + 1) name) ++ replicate (18 - (i + 1)) space
 padded_more f name padded i within short e =
     let front : List ℕ = map f (take i name) in
     let byte : ℕ = f (get_or name i 0) in

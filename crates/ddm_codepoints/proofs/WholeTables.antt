@@ -16,7 +16,8 @@ has_class Object = true
 has_class Reply = true
 has_class Unknown = false
 
-classless_is_nameless : (code : ℕ) (found : Option Known) → found ≡ known_of code → (option_map (λ (k : Known). k.name) found ≡ None) ↔ (class_or_unknown found ≡ Unknown)
+classless_is_nameless : (code : ℕ) (found : Option Known) → found ≡ known_of code →
+    (option_map (λ (k : Known). k.name) found ≡ None) ↔ (class_or_unknown found ≡ Unknown)
 classless_is_nameless code None e = (λ _. refl, λ _. refl)
 classless_is_nameless code (Some known) e =
     let passed = found_passes (λ (k : Known). k.code == code) (λ (k : Known). has_class k.class) table known refl e in
@@ -40,7 +41,8 @@ abbrev leads_on : Character → Bool
 leads_on character =
     option_eq nat_eq (option_map (λ c. c.ebcdic) (by_ascii character.ascii)) (Some character.ebcdic)
 
-ascii_back : (ascii ebcdic : ℕ) (found : Option Character) → found ≡ by_ascii ascii → option_map (λ (c : Character). c.ebcdic) found ≡ Some ebcdic → option_map (λ (c : Character). c.ascii) (by_ebcdic ebcdic) ≡ Some ascii
+ascii_back : (ascii ebcdic : ℕ) (found : Option Character) → found ≡ by_ascii ascii → option_map (λ (c : Character). c.ebcdic) found ≡ Some ebcdic →
+    option_map (λ (c : Character). c.ascii) (by_ebcdic ebcdic) ≡ Some ascii
 ascii_back ascii ebcdic None e is = absurd (cc)
 ascii_back ascii ebcdic (Some character) e is =
     let passed = found_passes (λ (c : Character). c.ascii == ascii) leads_back characters character refl e in
@@ -48,7 +50,8 @@ ascii_back ascii ebcdic (Some character) e is =
     let second : character.ebcdic ≡ ebcdic = cc in
     ap (λ b. option_map (λ (c : Character). c.ascii) (by_ebcdic b)) (sym second) ∙ same_option _ _ passed.1 ∙ ap Some first
 
-ebcdic_back : (ascii ebcdic : ℕ) (found : Option Character) → found ≡ by_ebcdic ebcdic → option_map (λ (c : Character). c.ascii) found ≡ Some ascii → option_map (λ (c : Character). c.ebcdic) (by_ascii ascii) ≡ Some ebcdic
+ebcdic_back : (ascii ebcdic : ℕ) (found : Option Character) → found ≡ by_ebcdic ebcdic → option_map (λ (c : Character). c.ascii) found ≡ Some ascii →
+    option_map (λ (c : Character). c.ebcdic) (by_ascii ascii) ≡ Some ebcdic
 ebcdic_back ascii ebcdic None e is = absurd (cc)
 ebcdic_back ascii ebcdic (Some character) e is =
     let passed = found_passes (λ (c : Character). c.ebcdic == ebcdic) leads_on characters character refl e in
