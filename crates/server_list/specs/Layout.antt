@@ -5,13 +5,10 @@ use Rattle.std.specs.Prelude.{ℕ, ◌*◌, ◌^◌, ◌<◌, ◌&&◌, ◌==◌
 use Rattle.std.specs.List.{flat_map, AllByRecursion}
 use Rattle.byteorder.specs.Endian.{big_number, big_bytes}
 use Rattle.ddm_objects.specs.Objects.{canonical_object}
+use Rattle.ddm_codepoints.specs.CodePoint.{srvlst}
 use Rattle.server_list.specs.Tried.{has_member}
 use Rattle.server_list.specs.Lists.{Listing, no_rows, with_row}
 use Rattle.server_list.specs.declared.list.ServerRow.{ServerRow}
-
--- DRDA, volume 3, SRVLST
-abbrev pub srvlst : ℕ
-srvlst = 0x244E
 
 -- ---- how a list is written
 

@@ -4,12 +4,10 @@ ghost use Rattle.server_list.specs.Layout.{row_bytes, counted_rows, list_data, l
 use crate::list::{ServerList, ServerRow};
 use crate::read::{NUMBERED, PLAIN};
 use byteorder::{BigEndian, ByteOrder};
+use ddm_codepoints::code_point::SRVLST;
 use ddm_objects::Builder;
 use link_ends::{NoMemory, Octets};
 use std::alloc::Global;
-
-/// The code point of SRVLST, the server list.
-const SRVLST: u16 = 0x244E;
 
 /// SRVLST with this list, the whole object.
 pub fn write_list(alloc: Global, list: &ServerList) -> Result<Octets, NoMemory>
