@@ -11,7 +11,7 @@ trap 'rm -rf "$folder"' EXIT
 passed=0
 failed=0
 
-usage='usage: drda_gateway play [--brief]'
+usage='usage: drda_gateway play'
 
 # What the last run left, against the status that is wanted and the bytes of the file `wanted`. Nothing is ever written
 # to standard error.
