@@ -69,12 +69,18 @@ fn octets_are_cut_from_the_front(rt: HostRuntime) -> Result<(), Fail> {
     assert_eq!(rt; octets.len(), 36);
     assert_eq!(rt; octets.cut(2)?.as_slice(), b"ab".as_slice());
     assert_eq!(rt; octets.len(), 34);
-    assert_eq!(rt; octets.cut(30)?.as_slice(), b"cdefghijklmnopqrstuvwxyz012345".as_slice());
+    assert_eq!(rt;
+        octets.cut(30)?.as_slice(),
+        b"cdefghijklmnopqrstuvwxyz012345".as_slice()
+    );
     assert_eq!(rt; octets.as_slice(), b"6789".as_slice());
     let shared = Bytes::copy_from_slice(rt.alloc(), letters)?;
     let mut octets = Octets::from_shared(rt.alloc(), shared);
     assert_eq!(rt; octets.len(), 36);
-    assert_eq!(rt; octets.cut(30)?.as_slice(), b"abcdefghijklmnopqrstuvwxyz0123".as_slice());
+    assert_eq!(rt;
+        octets.cut(30)?.as_slice(),
+        b"abcdefghijklmnopqrstuvwxyz0123".as_slice()
+    );
     assert_eq!(rt; octets.as_slice(), b"456789".as_slice());
     Ok(())
 }

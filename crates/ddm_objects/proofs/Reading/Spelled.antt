@@ -173,8 +173,11 @@ takes_there a b c d after form extent fits s within =
         object = record {
           form = form;
           allowed = s.allowed;
-          fits = record { code = omega (arith, code_is, byte_at (a ∷ b ∷ c ∷ d ∷ after) fits 2, byte_at (a ∷ b ∷ c ∷ d ∷ after) fits 3); size =
-              subst (HasRoom form) size s.room };
+          fits = record {
+            code = omega (arith, code_is, byte_at (a ∷ b ∷ c ∷ d ∷ after) fits 2, byte_at (a ∷ b ∷ c ∷ d ∷ after) fits 3);
+            size =
+                subst (HasRoom form) size s.room;
+          };
           spelled =
               spelled_there a b c d form object (extended_length form (length held) ++ held) (byte_at (a ∷ b ∷ c ∷ d ∷ after) fits 0)
               (byte_at (a ∷ b ∷ c ∷ d ∷ after) fits 1) (byte_at (a ∷ b ∷ c ∷ d ∷ after) fits 2) (byte_at (a ∷ b ∷ c ∷ d ∷ after) fits 3) field code_is refl;

@@ -12,7 +12,7 @@ returns-clause-ok c =
     let same : body ≡ c.args.dss.now.body = c.as_slice-body.ensures in
     subst (λ (xs : List ℕ). OnOk c.push_all.result (c.push_all.new.self ≡ c.args.out.now ++ xs))
     (take-put_mid 6 _ _ c.copy_from_slice-2.new.self _ (ap (λ (n : ℕ). 6 + n) (sym (ap length c.copy_from_slice-2.ensures.after)))
-        (omega (arith, c.copy_from_slice.ensures.len, length-append {A = ℕ}))
+    (omega (arith, c.copy_from_slice.ensures.len, length-append {A = ℕ}))
     ∙ ap (λ (xs : List ℕ). xs ++ c.copy_from_slice-2.new.self) (take_at c.copy_from_slice.new.self _ 6 c.copy_from_slice.ensures.len)
     ∙ ap (λ (xs : List ℕ). xs ++ c.copy_from_slice-2.new.self) (c.copy_from_slice.ensures.after ∙ c.header_bytes.ensures)
     ∙ ap (λ (xs : List ℕ). head ++ xs) c.copy_from_slice-2.ensures.after
