@@ -113,7 +113,12 @@ pub took_none : (old : SinkState) → Took old old []
 took_none old = ap (λ t. record old { taken = t }) (sym (none_taken old.taken))
 
 wrote : (old : SinkState) (a piece : List ℕ) (count : ℕ) (stuck : Bool) → stuck ≡ false
-    → record { taken = option_map (λ (bytes : List ℕ). bytes ++ take count piece) (with_taken old a).taken; faults = old.faults; stuck = counted stuck old.stuck }
+    → record {
+      taken = option_map (λ (bytes : List ℕ). bytes ++ take count piece) (with_taken old a).taken;
+      faults = old.faults;
+      stuck =
+          counted stuck old.stuck;
+    }
     ≡ with_taken old (a ++ take count piece)
 wrote old a piece count false e = ap (λ t. record old { taken = t }) (taken_both old.taken a (take count piece))
 wrote old a piece count true e = absurd (cc)
@@ -131,5 +136,11 @@ took_more old before now text piece from count first next is some =
 -- a write of a piece with bytes that takes none of them is stuck
 pub got_stuck : (begun now : SinkState) (piece : List ℕ) → IsTaken 0 begun now piece → 0 < length piece → now ≡ after_stuck_write begun
 got_stuck begun now piece next room =
-    next.after ∙ ap (λ b. record { taken = option_map (λ (bytes : List ℕ). bytes ++ []) begun.taken; faults = begun.faults; stuck = counted b begun.stuck }) (lt-ltb 0 (length piece) room)
+    next.after
+    ∙ ap (λ b. record {
+      taken = option_map (λ (bytes : List ℕ). bytes ++ []) begun.taken;
+      faults = begun.faults;
+      stuck =
+          counted b begun.stuck;
+    }) (lt-ltb 0 (length piece) room)
     ∙ ap (λ t. record { taken = t; faults = begun.faults; stuck = one_more begun.stuck }) (none_taken begun.taken)

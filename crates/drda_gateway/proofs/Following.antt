@@ -1,5 +1,6 @@
 -- Each session follows a dedicated one: what is kept by each event, and why.
-use Rattle.std.proofs.Common.{◌≡◌, ◌++◌, ◌+◌, ◌<◌, ◌≤◌, ℕ, Bool, true, false, List, [], ◌∷◌, Option, Some, None, refl, ap, sym, subst, ◌∙◌, arith, append_assoc, length, take, drop, cond, leb, ltb, ⊎_elim}
+use Rattle.std.proofs.Common.{◌≡◌, ◌++◌, ◌+◌, ◌<◌, ◌≤◌, ℕ, Bool, true, false, List, [], ◌∷◌, Option, Some, None, refl, ap, sym, subst, ◌∙◌, arith}
+use Rattle.std.proofs.Common.{append_assoc, length, take, drop, cond, leb, ltb, ⊎_elim}
 use Rattle.std.specs.Prelude.{option_map, is_none, ◌&&◌}
 use Rattle.std.proofs.Math.Seq.{take-add}
 use Rattle.std.proofs.lemmas.List.{append-nil, take-append-le, take-append-drop, length-take, length-take-le, length-append, length-drop, take_all}
@@ -15,7 +16,8 @@ use Rattle.access_handshake.specs.Excsat.{excsat_answer}
 use Rattle.link_ends.proofs.Lists.{no_items}
 use Rattle.drda_gateway.specs.Answer.{answer_to, params_of, reply_dss, is_lone_request}
 use Rattle.drda_gateway.specs.declared.session.End.{End}
-use Rattle.drda_gateway.specs.Session.{SessionState, unread, fresh, put_in_work, past_requests, begun_with, begun, is_reading, next_piece, taken_more, said_part, said_more, appended}
+use Rattle.drda_gateway.specs.Session.{SessionState, unread, fresh, put_in_work, past_requests, begun_with, begun, is_reading, next_piece, taken_more}
+use Rattle.drda_gateway.specs.Session.{said_part, said_more, appended}
 use Rattle.drda_gateway.specs.Dedicated.{reply_or_close, replies_to, dedicated}
 
 -- an answer isn't empty
@@ -29,13 +31,15 @@ spelling_some d e =
     some_bytes (segment_length (6 + length (take first_room d.body)) (ltb 0 (length (drop first_room d.body)))) (format_byte d ∷ to_be_bytes w16 d.corr)
     (take first_room d.body ++ further_segments (drop first_room d.body)) 208 e
 
-answer_by : (corr : ℕ) (params : Option (List ℕ)) (reply : List ℕ) → option_map (λ p. canonical (reply_dss corr (excsat_answer p))) params ≡ Some reply → reply ≡ [] → ⊥
+answer_by : (corr : ℕ) (params : Option (List ℕ)) (reply : List ℕ) → option_map (λ p. canonical (reply_dss corr (excsat_answer p))) params ≡ Some reply →
+    reply ≡ [] → ⊥
 answer_by corr None reply e silent = absurd (cc)
 answer_by corr (Some p) reply e silent =
     let same : canonical (reply_dss corr (excsat_answer p)) ≡ reply = cc in
     spelling_some (reply_dss corr (excsat_answer p)) (same ∙ silent)
 
-lone_by : (d : Dss) (lone : Bool) (reply : List ℕ) → cond lone (option_map (λ p. canonical (reply_dss d.corr (excsat_answer p))) (params_of d.body)) None ≡ Some reply → reply ≡ [] → ⊥
+lone_by : (d : Dss) (lone : Bool) (reply : List ℕ) →
+    cond lone (option_map (λ p. canonical (reply_dss d.corr (excsat_answer p))) (params_of d.body)) None ≡ Some reply → reply ≡ [] → ⊥
 lone_by d false reply e silent = absurd (cc)
 lone_by d true reply e silent = answer_by d.corr (params_of d.body) reply e silent
 
@@ -85,28 +89,34 @@ past_follows s rests none None e = record {
       let reads : Reads s = record {
         answered = rests.answered;
         read = rests.read;
-        replied = λ others fault. rests.replied others fault ∙ ap (λ (xs : List ℕ). xs ++ replies_to others fault) (sym (ap (λ (xs : List ℕ). s.sent ++ xs) rests.silent ∙ append-nil s.sent));
+        replied = λ others fault. rests.replied others fault
+            ∙ ap (λ (xs : List ℕ). xs ++ replies_to others fault) (sym (ap (λ (xs : List ℕ). s.sent ++ xs) rests.silent ∙ append-nil s.sent));
         idle = λ _. (none, e);
       } in
       subst (λ (o : Option End). Stands o s) (sym rests.goes_on) reads;
 }
 past_follows s rests none (Some fault) e = record {
   within = rests.within;
-  stands = sym (dedicated_is s rests ∙ ap (λ (xs : List Placed). s.sent ++ replies_to xs s.reader.fault) none ∙ ap (λ (f : Option StreamFault). s.sent ++ replies_to [] f) e);
+  stands = sym (dedicated_is s rests ∙ ap (λ (xs : List Placed). s.sent ++ replies_to xs s.reader.fault) none
+      ∙ ap (λ (f : Option StreamFault). s.sent ++ replies_to [] f) e);
 }
 
 -- where a request comes into work
-work_follows : (s : SessionState) → Rests s → (placed : Placed) (others : List Placed) → s.reader.whole ≡ placed ∷ others → (answer : Option (List ℕ)) → answer_to placed.dss ≡ answer → Follows (put_in_work placed.at answer (record s { reader = record s.reader { whole = others } }))
+work_follows : (s : SessionState) → Rests s → (placed : Placed) (others : List Placed) → s.reader.whole ≡ placed ∷ others → (answer : Option (List ℕ)) →
+    answer_to placed.dss ≡ answer → Follows (put_in_work placed.at answer (record s { reader = record s.reader { whole = others } }))
 work_follows s rests placed others e None a = record {
   within = rests.within;
-  stands = sym (dedicated_is s rests ∙ ap (λ (xs : List Placed). s.sent ++ replies_to xs s.reader.fault) e ∙ ap (λ (o : Option (List ℕ)). s.sent ++ reply_or_close o (replies_to others s.reader.fault)) a);
+  stands = sym (dedicated_is s rests ∙ ap (λ (xs : List Placed). s.sent ++ replies_to xs s.reader.fault) e
+      ∙ ap (λ (o : Option (List ℕ)). s.sent ++ reply_or_close o (replies_to others s.reader.fault)) a);
 }
 work_follows s rests placed others e (Some reply) a = record {
   within = rests.within;
   stands =
       let reads : Reads (record s { reader = record s.reader { whole = others }; saying = reply }) = record {
         answered = rests.answered ++ placed ∷ [];
-        read = rests.read ∙ ap (λ (xs : List Placed). record s.reader { whole = xs }) (ap (λ (xs : List Placed). rests.answered ++ xs) e ∙ sym (append_assoc rests.answered (placed ∷ []) others));
+        read = rests.read
+            ∙ ap (λ (xs : List Placed). record s.reader { whole = xs }) (ap (λ (xs : List Placed). rests.answered ++ xs) e
+            ∙ sym (append_assoc rests.answered (placed ∷ []) others));
         replied = λ more fault.
             ap (λ (xs : List Placed). replies_to xs fault) (append_assoc rests.answered (placed ∷ []) more)
             ∙ rests.replied (placed ∷ more) fault
@@ -160,7 +170,8 @@ take_follows s count follows silent goes_on =
           ∙ sym (fed-append unread (taken_bytes s) piece)
           ∙ ap (λ (v : View). fed v piece) reads.read
           ∙ fed-behind reads.answered s.reader piece;
-      replied = λ others fault. reads.replied others fault ∙ ap (λ (xs : List ℕ). xs ++ replies_to others fault) (ap (λ (xs : List ℕ). s.sent ++ xs) silent ∙ append-nil s.sent);
+      replied = λ others fault. reads.replied others fault
+          ∙ ap (λ (xs : List ℕ). xs ++ replies_to others fault) (ap (λ (xs : List ℕ). s.sent ++ xs) silent ∙ append-nil s.sent);
     } in
     begun_follows next rests
 
@@ -169,7 +180,8 @@ said_is : (s : SessionState) (count : ℕ) → (said_part count s).sent ++ (said
 said_is s count = append_assoc s.sent (take count s.saying) (drop count s.saying) ∙ ap (λ (xs : List ℕ). s.sent ++ xs) (take-append-drop count s.saying)
 
 -- a part of a reply is said, and more is left
-part_follows : (s : SessionState) (count : ℕ) → (ended : Option End) → s.ended ≡ ended → Follows s → ((said_part count s).saying ≡ [] → ended ≡ None → ⊥) → Follows (said_part count s)
+part_follows : (s : SessionState) (count : ℕ) → (ended : Option End) → s.ended ≡ ended → Follows s → ((said_part count s).saying ≡ [] → ended ≡ None → ⊥) →
+    Follows (said_part count s)
 part_follows s count None e follows more =
     let reads = reads_of s follows e in
     let said : Reads (said_part count s) = record {
@@ -188,7 +200,8 @@ pub is_none-is : (o : Option End) → is_none o ≡ true → o ≡ None
 is_none-is None e = refl
 is_none-is (Some x) e = absurd (cc)
 
-say_by : (s : SessionState) (count : ℕ) → Follows s → (reading : Bool) → is_reading (said_part count s) ≡ reading → Follows (cond reading (begun (said_part count s)) (said_part count s))
+say_by : (s : SessionState) (count : ℕ) → Follows s → (reading : Bool) → is_reading (said_part count s) ≡ reading →
+    Follows (cond reading (begun (said_part count s)) (said_part count s))
 say_by s count follows true e =
     let parts = and_parts (leb (length (said_part count s).saying) 0) (is_none s.ended) e in
     let silent = no_items (said_part count s).saying (leb-true (length (said_part count s).saying) 0 parts.0) in
@@ -200,11 +213,14 @@ say_by s count follows true e =
       within = follows.within;
       answered = reads.answered;
       read = reads.read;
-      replied = λ others fault. reads.replied others fault ∙ ap (λ (xs : List ℕ). xs ++ replies_to others fault) (sym (said_is s count) ∙ ap (λ (xs : List ℕ). (said_part count s).sent ++ xs) silent ∙ append-nil (said_part count s).sent);
+      replied = λ others fault. reads.replied others fault
+          ∙ ap (λ (xs : List ℕ). xs ++ replies_to others fault) (sym (said_is s count) ∙ ap (λ (xs : List ℕ). (said_part count s).sent ++ xs) silent
+          ∙ append-nil (said_part count s).sent);
     } in
     begun_follows (said_part count s) rests
 say_by s count follows false e = part_follows s count s.ended refl follows (λ silent goes_on.
-    let t : is_reading (said_part count s) ≡ true = ap (λ (xs : List ℕ). leb (length xs) 0 && is_none s.ended) silent ∙ ap (λ (o : Option End). is_none o) goes_on in
+    let t : is_reading (said_part count s) ≡ true = ap (λ (xs : List ℕ). leb (length xs) 0 && is_none s.ended) silent
+    ∙ ap (λ (o : Option End). is_none o) goes_on in
     absurd (cc))
 
 -- a part of a reply is said
@@ -213,7 +229,8 @@ unfolding said_more
 say_follows s count follows = say_by s count follows (is_reading (said_part count s)) refl
 
 -- an application has more bytes to send
-append_by : (s : SessionState) (more : List ℕ) → (ended : Option End) → s.ended ≡ ended → Follows s → take s.taken (s.bytes ++ more) ≡ taken_bytes s → Stands ended (appended more s)
+append_by : (s : SessionState) (more : List ℕ) → (ended : Option End) → s.ended ≡ ended → Follows s → take s.taken (s.bytes ++ more) ≡ taken_bytes s →
+    Stands ended (appended more s)
 append_by s more None e follows same =
     let reads = reads_of s follows e in
     record { answered = reads.answered; read = ap (fed unread) same ∙ reads.read; replied = reads.replied; idle = reads.idle }

@@ -22,7 +22,8 @@ use Rattle.drda_gateway.proofs.Headline.{all_dedicated}
 -- a text that is a script isn't too long
 pub script_fits : (text : List ℕ) (script : ScriptText) → script_of text ≡ Ok script → length text ≤ most
 script_fits text script e =
-    ⊎_elim (λ (long : most < length text). let refused = script_of-long text long in absurd (cc)) (λ (fits : length text ≤ most). fits) (cases_lt most (length text))
+    ⊎_elim (λ (long : most < length text). let refused = script_of-long text long in
+    absurd (cc)) (λ (fits : length text ≤ most). fits) (cases_lt most (length text))
 
 -- the sessions of a script's world are as dedicated ones
 script_dedicated : (script : ScriptText) → AreDedicated (world_of script.lines)
@@ -30,7 +31,8 @@ unfolding world_of
 script_dedicated script = all_dedicated (events_of start_world script.lines)
 
 -- what was read of a source that is a script was read to its end
-read_whole : (source source_now : SourceState) (text : List ℕ) (script : ScriptText) → WasReadUp source source_now text → script_of text ≡ Ok script → WasRead true source source_now text
+read_whole : (source source_now : SourceState) (text : List ℕ) (script : ScriptText) → WasReadUp source source_now text → script_of text ≡ Ok script →
+    WasRead true source source_now text
 read_whole source source_now text script read is_script = to_end source source_now text (script_fits text script is_script) read
 
 pub played : (source source_now : SourceState) (sink sink_now : SinkState) (text said report shown : List ℕ) → WasReadUp source source_now text → said ≡ text
@@ -46,7 +48,8 @@ played source source_now sink sink_now text said report shown read same reports 
       dedicated = script_dedicated reports.0;
     }
 
-pub report_begun : (source source_now : SourceState) (sink sink_now : SinkState) (text said report shown : List ℕ) → WasReadUp source source_now text → said ≡ text
+pub report_begun : (source source_now : SourceState) (sink sink_now : SinkState) (text said report shown : List ℕ) → WasReadUp source source_now text →
+    said ≡ text
     → Reports (Ok report) said → shown ≡ report → BrokeOff sink sink_now shown → BegunReport source source_now sink sink_now
 report_begun source source_now sink sink_now text said report shown read same reports e begun =
     let is_script : script_of text ≡ Ok reports.0 = sym (ap script_of same) ∙ reports.1 in
@@ -58,7 +61,8 @@ report_begun source source_now sink sink_now text said report shown read same re
       begun = subst (λ (r : List ℕ). BrokeOff sink sink_now r) (e ∙ reports.2) begun;
     }
 
-pub refused : (text said : List ℕ) (fault : ScriptFault) (line : ℕ) (why : ScriptWhy) → said ≡ text → fault ≡ Refused line why → Reports (Err fault) said → script_of text ≡ Err (record { line = line; why = why })
+pub refused : (text said : List ℕ) (fault : ScriptFault) (line : ℕ) (why : ScriptWhy) → said ≡ text → fault ≡ Refused line why → Reports (Err fault) said →
+    script_of text ≡ Err (record { line = line; why = why })
 refused text said fault line why same is reports =
     let now : Reports (Err (Refused line why)) said = subst (λ (f : ScriptFault). Reports (Err f) said) is reports in
     sym (ap script_of same) ∙ now
@@ -83,7 +87,8 @@ part_by source source_now told text tells read =
     }
 
 -- a text that a source told and gave isn't refused, where it is a script
-pub never_refused : (source source_now : SourceState) (told text : List ℕ) (script : ScriptText) (refusal : Refusal) → source.left ≡ Some told → script_of told ≡ Ok script
+pub never_refused : (source source_now : SourceState) (told text : List ℕ) (script : ScriptText) (refusal : Refusal) → source.left ≡ Some told →
+    script_of told ≡ Ok script
     → WasReadUp source source_now text → script_of text ≡ Err refusal → ⊥
 never_refused source source_now told text script refusal tells is_script read is_refused =
     let part : IsPart told text = part_by source source_now told text tells read in
@@ -93,7 +98,8 @@ never_refused source source_now told text script refusal tells is_script read is
     cc
 
 -- and it isn't played, where it is none
-pub never_played : (source source_now : SourceState) (told text said report : List ℕ) (refusal : Refusal) → source.left ≡ Some told → script_of told ≡ Err refusal
+pub never_played : (source source_now : SourceState) (told text said report : List ℕ) (refusal : Refusal) → source.left ≡ Some told →
+    script_of told ≡ Err refusal
     → WasReadUp source source_now text → said ≡ text → Reports (Ok report) said → ⊥
 never_played source source_now told text said report refusal tells is_refused read same reports =
     let is_script : script_of text ≡ Ok reports.0 = sym (ap script_of same) ∙ reports.1 in

@@ -18,15 +18,18 @@ pub record ReadSoFar (number : ℕ) (draft : Draft) (rest text : List ℕ) : Typ
   pub counted : number + length rest ≤ length text + 1
   pub short : length text ≤ most
 
-lines_added-cons : (number : ℕ) (draft : Draft) (rest line after : List ℕ) → lines_of rest ≡ line ∷ lines_of after → lines_added number draft (lines_of rest) ≡ after_line number (line_added draft line) (λ next. lines_added (number + 1) next (lines_of after))
+lines_added-cons : (number : ℕ) (draft : Draft) (rest line after : List ℕ) → lines_of rest ≡ line ∷ lines_of after →
+    lines_added number draft (lines_of rest) ≡ after_line number (line_added draft line) (λ next. lines_added (number + 1) next (lines_of after))
 unfolding lines_added
 lines_added-cons number draft rest line after e = ap (lines_added number draft) e
 
-lines_added-ok : (number : ℕ) (draft next : Draft) (rest line after : List ℕ) → lines_of rest ≡ line ∷ lines_of after → line_added draft line ≡ Ok next → lines_added number draft (lines_of rest) ≡ lines_added (number + 1) next (lines_of after)
+lines_added-ok : (number : ℕ) (draft next : Draft) (rest line after : List ℕ) → lines_of rest ≡ line ∷ lines_of after → line_added draft line ≡ Ok next →
+    lines_added number draft (lines_of rest) ≡ lines_added (number + 1) next (lines_of after)
 lines_added-ok number draft next rest line after e added =
     lines_added-cons number draft rest line after e ∙ ap (λ answer. after_line number answer (λ draft. lines_added (number + 1) draft (lines_of after))) added
 
-lines_added-err : (number : ℕ) (draft : Draft) (why : ScriptWhy) (rest line after : List ℕ) → lines_of rest ≡ line ∷ lines_of after → line_added draft line ≡ Err why → lines_added number draft (lines_of rest) ≡ Err (record { line = number; why = why })
+lines_added-err : (number : ℕ) (draft : Draft) (why : ScriptWhy) (rest line after : List ℕ) → lines_of rest ≡ line ∷ lines_of after →
+    line_added draft line ≡ Err why → lines_added number draft (lines_of rest) ≡ Err (record { line = number; why = why })
 lines_added-err number draft why rest line after e refused =
     lines_added-cons number draft rest line after e ∙ ap (λ answer. after_line number answer (λ draft. lines_added (number + 1) draft (lines_of after))) refused
 
@@ -39,21 +42,31 @@ unfolding script_of
 script_of-short text short = ap (λ b. cond b (Err (record { line = 0; why = Long })) (lines_added 1 start (lines_of text))) (le-ltb most (length text) short)
 
 -- the script is what is left to read, added to what was read
-script_of-so_far : (number : ℕ) (draft : Draft) (rest text : List ℕ) → ReadSoFar number draft rest text → script_of text ≡ lines_added number draft (lines_of rest)
+script_of-so_far : (number : ℕ) (draft : Draft) (rest text : List ℕ) → ReadSoFar number draft rest text →
+    script_of text ≡ lines_added number draft (lines_of rest)
 script_of-so_far number draft rest text so_far = script_of-short text so_far.short ∙ sym so_far.same
 
 -- one line on
-pub read_more : (number : ℕ) (draft next : Draft) (rest line after text : List ℕ) → ReadSoFar number draft rest text → lines_of rest ≡ line ∷ lines_of after → length after < length rest → line_added draft line ≡ Ok next → ReadSoFar (number + 1) next after text
+pub read_more : (number : ℕ) (draft next : Draft) (rest line after text : List ℕ) → ReadSoFar number draft rest text →
+    lines_of rest ≡ line ∷ lines_of after → length after < length rest → line_added draft line ≡ Ok next → ReadSoFar (number + 1) next after text
 read_more number draft next rest line after text so_far e shorter added =
-    record { same = sym (lines_added-ok number draft next rest line after e added) ∙ so_far.same; counted = omega (arith, so_far.counted, shorter); short = so_far.short }
+    record {
+      same = sym (lines_added-ok number draft next rest line after e added)
+          ∙ so_far.same;
+      counted = omega (arith, so_far.counted, shorter);
+      short = so_far.short;
+    }
 
 -- at a bad line
-pub read_refused : (number : ℕ) (draft changed : Draft) (rest line after text : List ℕ) → ReadSoFar number draft rest text → lines_of rest ≡ line ∷ lines_of after → (fault : LineFault) → Adds {T = Unit {0}} (Err fault) changed (line_added draft line) → Reads {A = ScriptText} (Err (fault_at number fault)) (script_of text)
+pub read_refused : (number : ℕ) (draft changed : Draft) (rest line after text : List ℕ) → ReadSoFar number draft rest text →
+    lines_of rest ≡ line ∷ lines_of after → (fault : LineFault) → Adds {T = Unit {0}} (Err fault) changed (line_added draft line) →
+    Reads {A = ScriptText} (Err (fault_at number fault)) (script_of text)
 read_refused number draft changed rest line after text so_far e (Refused why) refused =
     script_of-so_far number draft rest text so_far ∙ lines_added-err number draft why rest line after e refused
 read_refused number draft changed rest line after text so_far e NoMemory refused = tt
 
 -- at the end
-pub read_whole : (number : ℕ) (draft : Draft) (rest text : List ℕ) → ReadSoFar number draft rest text → length rest ≡ 0 → script_of text ≡ lines_added number draft []
+pub read_whole : (number : ℕ) (draft : Draft) (rest text : List ℕ) → ReadSoFar number draft rest text → length rest ≡ 0 →
+    script_of text ≡ lines_added number draft []
 read_whole number draft rest text so_far empty =
     script_of-so_far number draft rest text so_far ∙ ap (λ bytes. lines_added number draft (lines_of bytes)) (nil_from_length rest empty)

@@ -43,15 +43,23 @@ same_name xs ys name e =
     ap (λ zs. bytes_eq name zs) (sym ((bytes_eq-Decides xs ys).0 (sym (is_eq-slice_cmp xs ys) ∙ e)))
 
 module _ {Z : Type 0} (key : Vec ℕ Z) (name : List ℕ) where
-  names_step : (x : Vec ℕ Z) (xs more : List (Vec ℕ Z)) (o : Ordering) → slice_cmp nat_cmp key.items x.items ≡ o → list_any (λ k. bytes_eq name k.items) more ≡ (list_any (λ k. bytes_eq name k.items) xs || bytes_eq name key.items) → list_any (λ k. bytes_eq name k.items) (match_ordering o (key ∷ x ∷ xs) (x ∷ xs) (x ∷ more)) ≡ (list_any (λ k. bytes_eq name k.items) (x ∷ xs) || bytes_eq name key.items)
+  names_step : (x : Vec ℕ Z) (xs more : List (Vec ℕ Z)) (o : Ordering) → slice_cmp nat_cmp key.items x.items ≡ o →
+      list_any (λ k. bytes_eq name k.items) more ≡ (list_any (λ k. bytes_eq name k.items) xs || bytes_eq name key.items) →
+      list_any (λ k. bytes_eq name k.items) (match_ordering o (key ∷ x ∷ xs) (x ∷ xs) (x ∷ more)) ≡
+      (list_any (λ k. bytes_eq name k.items) (x ∷ xs) || bytes_eq name key.items)
   names_step x xs more Less e h = or_swap (bytes_eq name key.items) (bytes_eq name x.items) (list_any (λ k. bytes_eq name k.items) xs)
-  names_step x xs more Equal e h = or_again (bytes_eq name x.items) (list_any (λ k. bytes_eq name k.items) xs) (bytes_eq name key.items) (same_name key.items x.items name (ap is_eq e))
-  names_step x xs more Greater e h = ap (λ b. bytes_eq name x.items || b) h ∙ or_regroup (bytes_eq name x.items) (list_any (λ k. bytes_eq name k.items) xs) (bytes_eq name key.items)
+  names_step x xs more Equal e h =
+      or_again (bytes_eq name x.items) (list_any (λ k. bytes_eq name k.items) xs) (bytes_eq name key.items) (same_name key.items x.items name (ap is_eq e))
+  names_step x xs more Greater e h = ap (λ b. bytes_eq name x.items || b) h
+      ∙ or_regroup (bytes_eq name x.items) (list_any (λ k. bytes_eq name k.items) xs) (bytes_eq name key.items)
 
   -- the names after one more
-  pub names-insert_key : (keys : List (Vec ℕ Z)) → list_any (λ k. bytes_eq name k.items) (insert_key (λ x y. slice_cmp nat_cmp x.items y.items) keys key) ≡ (list_any (λ k. bytes_eq name k.items) keys || bytes_eq name key.items)
+  pub names-insert_key : (keys : List (Vec ℕ Z)) →
+      list_any (λ k. bytes_eq name k.items) (insert_key (λ x y. slice_cmp nat_cmp x.items y.items) keys key) ≡
+      (list_any (λ k. bytes_eq name k.items) keys || bytes_eq name key.items)
   names-insert_key [] = or_nil (bytes_eq name key.items)
-  names-insert_key (x ∷ xs) = names_step x xs (insert_key (λ x y. slice_cmp nat_cmp x.items y.items) xs key) (slice_cmp nat_cmp key.items x.items) refl (names-insert_key xs)
+  names-insert_key (x ∷ xs) =
+      names_step x xs (insert_key (λ x y. slice_cmp nat_cmp x.items y.items) xs key) (slice_cmp nat_cmp key.items x.items) refl (names-insert_key xs)
 
 -- the order of the keys
 abbrev pub key_cmp : {Z : Type 0} → Vec ℕ Z → Vec ℕ Z → Ordering
@@ -63,12 +71,14 @@ any_key key (x ∷ xs) =
     ap (λ b. b || list_any (is_at (key_cmp key)) xs) (is_eq-slice_cmp key.items x.items) ∙ ap (λ b. bytes_eq key.items x.items || b) (any_key key xs)
 
 -- a name is taken where the set has its key
-pub is_taken-contains : {Z : Type 0} (names : BTreeSet (Vec ℕ Z)) (users : List User) (name : List ℕ) (key : Vec ℕ Z) → KnowsNames names users → key.items ≡ name → is_taken name users ≡ contains key_cmp names key
+pub is_taken-contains : {Z : Type 0} (names : BTreeSet (Vec ℕ Z)) (users : List User) (name : List ℕ) (key : Vec ℕ Z) → KnowsNames names users →
+    key.items ≡ name → is_taken name users ≡ contains key_cmp names key
 is_taken-contains names users name key known same =
     sym (known name) ∙ ap (λ bytes. has_name bytes names) (sym same) ∙ sym (any_key key names.keys)
 
 -- the set after one more
-pub KnowsNames-push : {Z : Type 0} (names changed : BTreeSet (Vec ℕ Z)) (users : List User) (user : User) (key : Vec ℕ Z) → KnowsNames names users → key.items ≡ user.name → changed.keys ≡ insert_key key_cmp names.keys key → KnowsNames changed (users ++ user ∷ [])
+pub KnowsNames-push : {Z : Type 0} (names changed : BTreeSet (Vec ℕ Z)) (users : List User) (user : User) (key : Vec ℕ Z) → KnowsNames names users →
+    key.items ≡ user.name → changed.keys ≡ insert_key key_cmp names.keys key → KnowsNames changed (users ++ user ∷ [])
 KnowsNames-push names changed users user key known same e =
     λ name. ap (list_any (λ k. bytes_eq name k.items)) e
     ∙ names-insert_key key name names.keys

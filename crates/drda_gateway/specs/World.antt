@@ -1,6 +1,7 @@
 -- All sessions and the log, as a function of the list of the events that were run: the replay. Events, log and replay are
 -- this project's own.
-use Rattle.std.specs.Prelude.{ℕ, zero, suc, List, [], ◌∷◌, ◌++◌, ◌+◌, ◌-◌, ◌&&◌, ◌≡◌, Bool, true, false, MatchOption, length, nat_lt, nat_le, is_none, if◌then◌else◌, Option, Some, None, option_map, position, replicate, slice_set, slice_index_or}
+use Rattle.std.specs.Prelude.{ℕ, zero, suc, List, [], ◌∷◌, ◌++◌, ◌+◌, ◌-◌, ◌&&◌, ◌≡◌, Bool, true, false, MatchOption, length, nat_lt, nat_le, is_none}
+use Rattle.std.specs.Prelude.{if◌then◌else◌, Option, Some, None, option_map, position, replicate, slice_set, slice_index_or}
 use Rattle.drda_gateway.specs.declared.session.End.{End}
 use Rattle.drda_gateway.specs.declared.session.End.TheVariants.{Refused, Limit}
 use Rattle.drda_gateway.specs.declared.world.ErrorWord.{ErrorWord}

@@ -1,7 +1,8 @@
 ghost use Rattle.std.specs.Prelude.{◌≡◌, ◌≤◌, length, IfOk, IfSome};
 ghost use Rattle.std.specs.Option.{option_copied};
 ghost use Rattle.ddm_objects.specs.Members.{IsMembers};
-ghost use Rattle.drda_gateway.specs.Answer.{answer_to, limit_reply as limit_bytes, most_chain, params_of, syntax_error as error_number, syntax_reply as syntax_bytes};
+ghost use Rattle.drda_gateway.specs.Answer.{answer_to, limit_reply as limit_bytes, most_chain, params_of, syntax_error as error_number};
+ghost use Rattle.drda_gateway.specs.Answer.{syntax_reply as syntax_bytes};
 
 use access_handshake::{ExcsatAnswer, answer_excsat};
 use byteorder::{BigEndian, ByteOrder};

@@ -16,7 +16,11 @@ const GREETING: &str =
 
 /// Its report.
 const GREETED: &str =
-    "app 1 sent 0027D003000100211443000A1147C4D9C4C1C7E6000B116DC7C1E3C5E6C1E80008115AC7E6F0F1\napp 1 open\nlog answer 1\ncount commits 0 dials 0 reuses 0 losses 0\n";
+    "app 1 sent 0027D003000100211443000A1147C4D9C4C1C7E6000B116DC7C1E3C5E6C1E80008115AC7E6F0F1
+app 1 open
+log answer 1
+count commits 0 dials 0 reuses 0 losses 0
+";
 
 /// Whether `play` answers this status and writes this text, where these calls of its source and of its sink fail.
 fn plays(
@@ -133,7 +137,12 @@ fn refuses_other_bytes(rt: HostRuntime) -> Result<(), Fail> {
 fn places_count_from_the_beginning(rt: HostRuntime) -> Result<(), Fail> {
     let alloc = rt.alloc();
     let lines =
-        "app 1 sent 0027D003000100211443000A1147C4D9C4C1C7E6000B116DC7C1E3C5E6C1E80008115AC7E6F0F10015D0020000000F124C0006114900080005114A03\napp 1 ended syntax 12\nlog answer 1\nlog error 1 syntax\nlog answer 1\n";
+        "app 1 sent 0027D003000100211443000A1147C4D9C4C1C7E6000B116DC7C1E3C5E6C1E80008115AC7E6F0F10015D0020000000F124C0006114900080005114A03
+app 1 ended syntax 12
+log answer 1
+log error 1 syntax
+log answer 1
+";
     let bytes = "000AD001000100041041000AD101000200041041";
     assert!(rt; comes_to(alloc, bytes, lines)?);
     Ok(())

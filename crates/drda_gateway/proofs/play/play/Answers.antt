@@ -12,16 +12,19 @@ returns-in-Ok-write_all-clause-done g c = λ _.
 
 pub returns-in-Ok-write_all-clause-refuses : goal.returns-in-Ok-write_all-clause-refuses
 returns-in-Ok-write_all-clause-refuses g c = λ told refusal tells is_refused words reads.
-    absurd (never_played _ _ told c.in-Ok.text c.as_slice.result.now c.in-Ok-report_on.report refusal tells is_refused c.in-Ok.ensures.read c.as_slice.ensures c.in-Ok-report_on.ensures)
+    absurd (never_played _ _ told c.in-Ok.text c.as_slice.result.now c.in-Ok-report_on.report refusal tells is_refused c.in-Ok.ensures.read
+    c.as_slice.ensures c.in-Ok-report_on.ensures)
 
 pub returns-in-Ok-report_on-clause-sink_fault : goal.returns-in-Ok-report_on-clause-sink_fault
 returns-in-Ok-report_on-clause-sink_fault g c = λ _.
-    report_begun _ _ _ _ c.in-Ok.text c.as_slice.result.now c.in-Ok-report_on.report c.as_slice-in-Ok-report_on.result.now c.in-Ok.ensures.read c.as_slice.ensures
+    report_begun _ _ _ _ c.in-Ok.text c.as_slice.result.now c.in-Ok-report_on.report c.as_slice-in-Ok-report_on.result.now c.in-Ok.ensures.read
+    c.as_slice.ensures
     c.in-Ok-report_on.ensures c.as_slice-in-Ok-report_on.ensures c.in-Err.ensures.broke_off
 
 pub returns-in-Ok-report_on-clause-refuses : goal.returns-in-Ok-report_on-clause-refuses
 returns-in-Ok-report_on-clause-refuses g c = λ told refusal tells is_refused words reads.
-    absurd (never_played _ _ told c.in-Ok.text c.as_slice.result.now c.in-Ok-report_on.report refusal tells is_refused c.in-Ok.ensures.read c.as_slice.ensures c.in-Ok-report_on.ensures)
+    absurd (never_played _ _ told c.in-Ok.text c.as_slice.result.now c.in-Ok-report_on.report refusal tells is_refused c.in-Ok.ensures.read
+    c.as_slice.ensures c.in-Ok-report_on.ensures)
 
 pub returns-in-Ok-refusal-clause-refused : goal.returns-in-Ok-refusal-clause-refused
 returns-in-Ok-refusal-clause-refused g c = λ _.
@@ -31,13 +34,21 @@ returns-in-Ok-refusal-clause-refused g c = λ _.
       text = c.in-Ok.text;
       refusal = record { line = c.in-Err-Refused.line; why = c.in-Err-Refused.why };
       read = c.in-Ok.ensures.read;
-      is_refused = refused c.in-Ok.text c.as_slice.result.now c.in-Err-Refused.field-0 c.in-Err-Refused.line c.in-Err-Refused.why c.as_slice.ensures c.in-Err-Refused.field-0-is c.in-Err-Refused.ensures;
-      told = subst (λ (t : List ℕ). Offered before now t) (c.as_bytes.ensures.value ∙ c.as_str.ensures.value ∙ c.in-Ok-refusal.ensures) c.offer-in-Ok-refusal.ensures;
+      is_refused =
+          refused c.in-Ok.text c.as_slice.result.now c.in-Err-Refused.field-0 c.in-Err-Refused.line c.in-Err-Refused.why c.as_slice.ensures
+          c.in-Err-Refused.field-0-is c.in-Err-Refused.ensures;
+      told = subst (λ (t : List ℕ). Offered before now t) (c.as_bytes.ensures.value ∙ c.as_str.ensures.value
+          ∙ c.in-Ok-refusal.ensures) c.offer-in-Ok-refusal.ensures;
     }
 
 pub returns-in-Ok-refusal-clause-plays : goal.returns-in-Ok-refusal-clause-plays
 returns-in-Ok-refusal-clause-plays g c = λ told script tells is_script words reads writes.
     let before : SourceState = g.S.Source.state c.args.source.now in
     let now : SourceState = g.S.Source.state c.read_all.new.source in
-    absurd (never_refused before now told c.in-Ok.text script (record { line = c.in-Err-Refused.line; why = c.in-Err-Refused.why }) tells is_script c.in-Ok.ensures.read
-    (refused c.in-Ok.text c.as_slice.result.now c.in-Err-Refused.field-0 c.in-Err-Refused.line c.in-Err-Refused.why c.as_slice.ensures c.in-Err-Refused.field-0-is c.in-Err-Refused.ensures))
+    absurd (never_refused before now told c.in-Ok.text script (record {
+      line = c.in-Err-Refused.line;
+      why =
+          c.in-Err-Refused.why;
+    }) tells is_script c.in-Ok.ensures.read
+    (refused c.in-Ok.text c.as_slice.result.now c.in-Err-Refused.field-0 c.in-Err-Refused.line c.in-Err-Refused.why c.as_slice.ensures
+    c.in-Err-Refused.field-0-is c.in-Err-Refused.ensures))

@@ -7,11 +7,14 @@ returns-then-text-gt-MOST_BYTES c = script_of-long c.args.text.now c.if-text-gt-
 
 pub returns-in-Err : goal.returns-in-Err
 returns-in-Err c =
-    rw c.at.ensures (read_refused c.loop-rest.number c.loop-rest.draft c.add_line.new.self c.loop-rest.rest.now c.split_line.result.0.now c.split_line.result.1.now c.args.text.now c.loop-rest.invariant c.split_line.ensures.lines c.in-Err.fault c.in-Err.ensures)
+    rw c.at.ensures
+    (read_refused c.loop-rest.number c.loop-rest.draft c.add_line.new.self c.loop-rest.rest.now c.split_line.result.0.now c.split_line.result.1.now
+    c.args.text.now c.loop-rest.invariant c.split_line.ensures.lines c.in-Err.fault c.in-Err.ensures)
 
 pub loop-rest-preserved : goal.loop-rest-preserved
 loop-rest-preserved c =
-    read_more c.loop-rest.number c.loop-rest.draft c.add_line.new.self c.loop-rest.rest.now c.split_line.result.0.now c.split_line.result.1.now c.args.text.now c.loop-rest.invariant c.split_line.ensures.lines c.split_line.ensures.shorter c.in_default.ensures
+    read_more c.loop-rest.number c.loop-rest.draft c.add_line.new.self c.loop-rest.rest.now c.split_line.result.0.now c.split_line.result.1.now
+    c.args.text.now c.loop-rest.invariant c.split_line.ensures.lines c.split_line.ensures.shorter c.in_default.ensures
 
 pub returns : goal.returns
 returns c =

@@ -19,5 +19,6 @@ pub returns-clause-still_known : goal.returns-clause-still_known
 returns-clause-still_known c =
     let items : c.push.new.self.items ≡ c.args.list.now.items ++ c.args.user ∷ [] = search rules in
     λ name.
-    KnowsNames-push c.args.names.now c.insert.new.self c.args.list.now.items c.args.user c.args.key c.requires.known c.requires.key c.in_ok-insert.ensures.keys name
+    KnowsNames-push c.args.names.now c.insert.new.self c.args.list.now.items c.args.user c.args.key c.requires.known c.requires.key
+    c.in_ok-insert.ensures.keys name
     ∙ ap (is_taken name) (sym items)
