@@ -1,4 +1,5 @@
 use super::*;
+use access_handshake::{Mark, Stage};
 use server_list::{ServerList, ServerRow, Tried};
 use std::test::Fail;
 
@@ -139,5 +140,144 @@ fn keeps_calls_with_their_answers(rt: HostRuntime) -> Result<(), Fail> {
     );
     assert!(rt; journal.get(3).is_none());
     assert!(rt; !decisions.pool().queues(3, none));
+    Ok(())
+}
+
+const AT_REST: Mark = Mark {
+    stage: Stage::Attached,
+    unread: 0,
+};
+
+/// What a lend answers, its transport's link and number or the right's number, and the session that it was asked for.
+fn told(lend: Lend<u32>) -> (PoolAnswer, Option<u32>, u32) {
+    match lend {
+        Lend::Idle(transport) => {
+            let answer = idle(transport.number(), transport.member());
+            let session = transport.terms().session;
+            let (_, link) = transport.into_parts();
+            (answer, Some(link), session)
+        }
+        Lend::Dial(grant) => {
+            let session = grant.terms().session;
+            (dial(grant.number(), grant.member()), None, session)
+        }
+        Lend::Queue => (PoolAnswer::Queue, None, 0),
+        Lend::NoneLeft(listed) => (PoolAnswer::NoneLeft, None, listed.terms().session),
+        Lend::Worn(spent) => (PoolAnswer::Worn, None, spent.terms().session),
+    }
+}
+
+/// The right that a lend gives: newly, or that of an idle transport.
+fn right(lend: Lend<u32>) -> Option<Grant> {
+    match lend {
+        Lend::Dial(grant) => Some(grant),
+        Lend::Idle(transport) => {
+            let (grant, _) = transport.into_parts();
+            Some(grant)
+        }
+        _ => None,
+    }
+}
+
+/// Each branch of a lend with its link, in a house in which two transports may be lent.
+#[test]
+fn lends_links_by_every_branch(rt: HostRuntime) -> Result<(), Fail> {
+    let mut house = House::<u32>::new(rt.alloc(), 2, &pair(1, 0), 2)?;
+    let none = Tried::none();
+    let both = none.with(1).with(2);
+    assert!(rt; house.ticket() == Some(1));
+    assert!(rt; house.ticket() == Some(2));
+    assert!(rt; house.ticket() == None);
+    let first = right(house.lend(1, none, false)).expect(&rt, "the first right");
+    assert!(rt;
+        house
+            .give_back(Transport::rest(first, 71, AT_REST))
+            .is_none()
+    );
+    assert!(rt; told(house.lend(2, none, false)) == (idle(1, 1), Some(71), 2));
+    assert!(rt; told(house.lend(3, none.with(1), true)) == (dial(2, 2), None, 3));
+    assert!(rt; house.queues(4, none));
+    assert!(rt; told(house.lend(4, none, false)) == (PoolAnswer::Queue, None, 0));
+    assert!(rt; told(house.lend(5, both, false)) == (PoolAnswer::NoneLeft, None, 5));
+    assert!(rt; house.waits(4));
+    house.leave(4);
+    assert!(rt; !house.waits(4));
+    house.learn(&pair(9, 5));
+    assert!(rt; house.known().has(2) && !house.known().has(3));
+    assert!(rt; house.calls() == 8);
+    assert!(rt; house.dials() == 2);
+    assert!(rt; house.reuses() == 1);
+    assert!(rt; house.journal().len() == 8);
+    Ok(())
+}
+
+/// A right that is lost frees its place, and a transport whose number isn't lent is handed back itself.
+#[test]
+fn hands_back_what_is_not_lent(rt: HostRuntime) -> Result<(), Fail> {
+    let mut house = House::<u32>::new(rt.alloc(), 1, &pair(1, 0), 1)?;
+    let mut other = House::<u32>::new(rt.alloc(), 1, &pair(1, 0), 1)?;
+    let none = Tried::none();
+    let stranger = right(other.lend(1, none, false)).expect(&rt, "a right of another house");
+    let handed = house.give_back(Transport::rest(stranger, 72, AT_REST));
+    assert!(rt; handed.is_some_and(|transport| transport.into_parts().1 == 72));
+    let grant = right(house.lend(1, none, false)).expect(&rt, "a right");
+    assert!(rt; house.queues(2, none));
+    house.lost(grant);
+    assert!(rt; !house.queues(2, none));
+    if let Lend::NoneLeft(listed) = house.lend(1, none.with(1).with(2), false) {
+        assert!(rt; listed.within(&none.with(1).with(2)));
+        assert!(rt; !listed.within(&none.with(2)));
+    } else {
+        panic!(rt; "a member is left");
+    }
+    Ok(())
+}
+
+/// Of 33 links that are idle the one idle longest is handed out: not the one that was lent and given back twice in between.
+#[test]
+fn hands_out_the_link_idle_longest(rt: HostRuntime) -> Result<(), Fail> {
+    let mut list = ServerList::new();
+    list.push(ServerRow {
+        member: 1,
+        weight: 1,
+    });
+    let mut house = House::<u32>::new(rt.alloc(), 32, &list, 1)?;
+    let none = Tried::none();
+    let mut rights = Vec::new(rt.alloc());
+    for _ in 0..32 {
+        rights.push(right(house.lend(1, none, true)).expect(&rt, "a right"))?;
+    }
+    for (place, grant) in rights.into_iter().enumerate() {
+        let link = place as u32 + 101;
+        assert!(rt;
+            house
+                .give_back(Transport::rest(grant, link, AT_REST))
+                .is_none()
+        );
+    }
+    for _ in 0..2 {
+        let again = right(house.lend(1, none, false)).expect(&rt, "an idle transport");
+        assert!(rt;
+            house
+                .give_back(Transport::rest(again, 132, AT_REST))
+                .is_none()
+        );
+    }
+    let last = right(house.lend(1, none, true)).expect(&rt, "the last right");
+    let handed = house.give_back(Transport::rest(last, 133, AT_REST));
+    assert!(rt; handed.is_some_and(|transport| transport.into_parts().1 == 101));
+    assert!(rt; told(house.lend(1, none, false)) == (idle(33, 1), Some(133), 1));
+    Ok(())
+}
+
+fn sent<T: Send>(value: T) -> T {
+    value
+}
+
+/// A house can cross to another thread.
+#[test]
+fn house_is_sent(rt: HostRuntime) -> Result<(), Fail> {
+    let house = sent(House::<u32>::new(rt.alloc(), 1, &pair(1, 0), 1)?);
+    assert!(rt; house.calls() == 0);
     Ok(())
 }
