@@ -1,5 +1,5 @@
 -- What a lend and a giving back make of the idle transports, by what they answer.
-use Rattle.std.proofs.Common.{◌≡◌, ◌≢◌, ℕ, ◌+◌, ◌<◌, ◌≤◌, ◌==◌, ◌&&◌, ◌||◌, Bool, true, false, not, eqb, leb, nat_lt, cond, if◌then◌else◌, List, [], ◌∷◌, ◌++◌}
+use Rattle.std.proofs.Common.{◌≡◌, ◌≢◌, ℕ, ◌+◌, ◌<◌, ◌≤◌, ◌==◌, ◌&&◌, ◌||◌, Bool, true, false, eqb, leb, nat_lt, cond, List, [], ◌∷◌, ◌++◌}
 use Rattle.std.proofs.Common.{length, find, reverse, slice_index_or, Option, Some, None, IfSome, is_none, refl, ap, sym, ◌∙◌, subst, arith}
 use Rattle.std.proofs.lemmas.Bool.Decides.{nat_tests}
 use Rattle.std.proofs.lemmas.List.{reverse-append}
@@ -7,8 +7,8 @@ use Rattle.server_list.specs.Tried.{is_member}
 use Rattle.server_list.specs.Choice.{pick, are_tried}
 use Rattle.server_list.specs.declared.list.ServerRow.{ServerRow}
 use Rattle.server_list.proofs.Picking.{picked_member, no_pick}
-use Rattle.transport_pool.specs.State.{PoolState, without, is_among, is_waiting, left_by, counts_of}
-use Rattle.transport_pool.specs.Steps.{Stepped, must_wait, after_leave, after_wait, next_transport, idle_of, lent_out, lent_by, lend_step, rested, give_step}
+use Rattle.transport_pool.specs.State.{PoolState, without, is_among, is_waiting, counts_of}
+use Rattle.transport_pool.specs.Steps.{Stepped, must_wait, after_leave, after_wait, next_transport, idle_of, lent_out, lent_by, rested}
 use Rattle.transport_pool.specs.Steps.{oldest_of, most_idle, is_newer, learned, pool_step}
 use Rattle.server_list.specs.Lists.{Listing}
 use Rattle.server_list.specs.Layout.{known_rows, unless_empty}

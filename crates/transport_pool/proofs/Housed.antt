@@ -1,6 +1,6 @@
 -- What a house keeps and shows after what was decided.
-use Rattle.std.proofs.Common.{◌≡◌, ◌≢◌, ◌⊎◌, inl, inr, ℕ, ◌+◌, ◌≤◌, ◌==◌, Bool, true, false, not, eqb, cond, if◌then◌else◌, List, [], ◌∷◌, ◌++◌, length}
-use Rattle.std.proofs.Common.{Option, Some, None, IfSome, IsSomeAnd, refl, ap, sym, ◌∙◌, subst, arith}
+use Rattle.std.proofs.Common.{◌≡◌, ◌≢◌, ◌⊎◌, inl, inr, ℕ, ◌≤◌, ◌==◌, Bool, true, false, not, eqb, cond, List, [], ◌∷◌, ◌++◌}
+use Rattle.std.proofs.Common.{Option, Some, None, IsSomeAnd, refl, ap, sym, ◌∙◌, subst, arith}
 use Rattle.std.proofs.lemmas.Bool.Decides.{nat_tests}
 use Rattle.server_list.specs.declared.list.ServerRow.{ServerRow}
 use Rattle.transport_pool.specs.State.{PoolState, without, is_among}
@@ -8,11 +8,11 @@ use Rattle.transport_pool.specs.Steps.{pool_step}
 use Rattle.transport_pool.specs.Sound.{times, IsSound, RowsAreSound}
 use Rattle.transport_pool.specs.Journal.{Decided, decided_after, dials_after}
 use Rattle.transport_pool.specs.Grants.{Resting, IsAtRest}
-use Rattle.transport_pool.specs.Slots.{numbered, held, free, under, Leaves, Gains, most_kept}
+use Rattle.transport_pool.specs.Slots.{Slots, numbered, held, free, under, Leaves, Gains}
 use Rattle.transport_pool.specs.House.{HouseState, rests_given, handed_out, rests_lent, but_for, numbered_so}
-use Rattle.transport_pool.specs.HouseInside.{in_order, Lies, AreKept, AreAtRest}
+use Rattle.transport_pool.specs.HouseInside.{in_order, AreKept, AreAtRest}
 use Rattle.transport_pool.specs.Lends.{lent_on, IsLent, HasTerms, AllTried, dialled}
-use Rattle.transport_pool.specs.Moves.{CanLend, MovesLent, HandsOut, CanRest, MovesGiven, Exchanges, handed_back}
+use Rattle.transport_pool.specs.Moves.{CanLend, MovesLent, HandsOut, CanRest, MovesGiven, handed_back}
 use Rattle.transport_pool.specs.declared.terms.Terms.{Terms}
 use Rattle.transport_pool.specs.declared.lend.Lend.{Lend}
 use Rattle.transport_pool.specs.declared.lend.Lend.TheVariants as lend
@@ -23,7 +23,7 @@ use Rattle.transport_pool.specs.declared.entry.PoolAnswer.{PoolAnswer}
 use Rattle.transport_pool.specs.declared.entry.PoolAnswer.TheVariants.{Idle, Dial, Queue, NoneLeft, Worn, Handed, Nothing}
 use Rattle.transport_pool.proofs.Keeps.{among_times, times_without, all_filter, all_push}
 use Rattle.transport_pool.proofs.Tries.{all_within}
-use Rattle.transport_pool.proofs.Deciding.{Lends, Gives, Rests, lends_so, gives_so}
+use Rattle.transport_pool.proofs.Deciding.{Lends, Gives, lends_so, gives_so}
 use Rattle.transport_pool.proofs.Housing.{order_without, order_push, order_found, kept_without, kept_push, among_lies}
 
 -- ---- what was decided
@@ -61,7 +61,7 @@ same_or_not a b = elim (eqb a b) as (λ c. eqb a b ≡ c → (a ≡ b) ⊎ (a �
 module _ {L : Type 0} where
   -- ---- nothing moves
 
-  pub kept_along : (slots : List (Option (Option (Resting L)))) (old new : List Numbered) → new ≡ old → AreKept slots old → AreKept slots new
+  pub kept_along : (slots : Slots L) (old new : List Numbered) → new ≡ old → AreKept slots old → AreKept slots new
   kept_along slots old new e k = let P : List Numbered → Type 0 = λ idle. AreKept slots idle in subst P (sym e) k
 
   -- what a house shows
@@ -81,12 +81,12 @@ module _ {L : Type 0} where
       } in
       ap (λ (d : Decided). made d got) e ∙ ap (λ (r : List (Resting L)). made next r) f
 
-  pub order_same : (slots : List (Option (Option (Resting L)))) (old new : List Numbered) → new ≡ old → in_order slots new ≡ in_order slots old
+  pub order_same : (slots : Slots L) (old new : List Numbered) → new ≡ old → in_order slots new ≡ in_order slots old
   order_same slots old new e = ap (in_order slots) e
 
   -- ---- one is lent
 
-  pub one_held : (slots : List (Option (Option (Resting L)))) (pool : PoolState) (number member : ℕ) → is_among number member pool.idle ≡ true
+  pub one_held : (slots : Slots L) (pool : PoolState) (number member : ℕ) → is_among number member pool.idle ≡ true
       → IsSound pool → AreKept slots pool.idle → times number (held slots) ≡ 1
   one_held slots pool number member e s k =
       let some = among_times number member pool.idle e in
@@ -94,20 +94,20 @@ module _ {L : Type 0} where
       let here = k.counted number in
       omega arith
 
-  pub lent_kept : (old new : List (Option (Option (Resting L)))) (idle next : List Numbered) (number : ℕ) → Leaves number old new
+  pub lent_kept : (old new : Slots L) (idle next : List Numbered) (number : ℕ) → Leaves number old new
       → next ≡ without number idle → times number (held old) ≡ 1 → AreKept old idle → AreKept new next
   lent_kept old new idle next number l e one k =
       let here = k.counted number in
       kept_along new (without number idle) next e (kept_without number old new idle l (omega arith) k)
 
-  pub lent_order : (old new : List (Option (Option (Resting L)))) (idle next : List Numbered) (number : ℕ) → Leaves number old new
+  pub lent_order : (old new : Slots L) (idle next : List Numbered) (number : ℕ) → Leaves number old new
       → next ≡ without number idle → in_order new next ≡ but_for number (in_order old idle)
   lent_order old new idle next number l e = ap (in_order new) e ∙ order_without number old new idle l
 
   some_and : (o : Option (Resting L)) (t : Resting L) (P : Resting L → Type 0) → o ≡ Some t → IsSomeAnd o P → P t
   some_and o t P e h = let Q : Option (Resting L) → Type 0 = λ x. IsSomeAnd x P in let k : IsSomeAnd (Some t) P = subst Q e h in k
 
-  pub lent_found : (slots : List (Option (Option (Resting L)))) (pool : PoolState) (number member : ℕ) (t : Resting L)
+  pub lent_found : (slots : Slots L) (pool : PoolState) (number member : ℕ) (t : Resting L)
       → is_among number member pool.idle ≡ true → AreKept slots pool.idle → under number slots ≡ Some t
       → (numbered_so number (in_order slots pool.idle) ≡ Some t) × (t.grant.member ≡ member)
   lent_found slots pool number member t e k found =
@@ -118,24 +118,24 @@ module _ {L : Type 0} where
 
   -- ---- one comes to rest
 
-  pub room_for : (slots : List (Option (Option (Resting L)))) (pool : PoolState) → IsSound pool → AreKept slots pool.idle → 1 ≤ free slots
+  pub room_for : (slots : Slots L) (pool : PoolState) → IsSound pool → AreKept slots pool.idle → 1 ≤ free slots
   room_for slots pool s k = let a = s.idle in let b = k.room in omega arith
 
-  pub rest_kept : (old new : List (Option (Option (Resting L)))) (idle next : List Numbered) (t : Resting L) → Gains t old new
+  pub rest_kept : (old new : Slots L) (idle next : List Numbered) (t : Resting L) → Gains t old new
       → next ≡ idle ++ numbered t ∷ [] → times t.grant.number idle ≡ 0 → AreKept old idle → AreKept new next
   rest_kept old new idle next t g e unused k = kept_along new (idle ++ numbered t ∷ []) next e (kept_push t old new idle g unused k)
 
-  pub rest_order : (old new : List (Option (Option (Resting L)))) (idle next : List Numbered) (t : Resting L) → Gains t old new
+  pub rest_order : (old new : Slots L) (idle next : List Numbered) (t : Resting L) → Gains t old new
       → next ≡ idle ++ numbered t ∷ [] → times t.grant.number idle ≡ 0 → in_order new next ≡ in_order old idle ++ t ∷ []
   rest_order old new idle next t g e unused = ap (in_order new) e ∙ order_push t old new idle g unused
 
-  pub exchange_kept : (old mid new : List (Option (Option (Resting L)))) (idle next : List Numbered) (number : ℕ) (t : Resting L)
+  pub exchange_kept : (old mid new : Slots L) (idle next : List Numbered) (number : ℕ) (t : Resting L)
       → Leaves number old mid → Gains t mid new → next ≡ without number idle ++ numbered t ∷ [] → times number idle ≡ 1
       → times t.grant.number idle ≡ 0 → AreKept old idle → AreKept new next
   exchange_kept old mid new idle next number t l g e one unused k =
       rest_kept mid new (without number idle) next t g e (fewer t.grant.number number idle unused) (kept_without number old mid idle l one k)
 
-  pub exchange_order : (old mid new : List (Option (Option (Resting L)))) (idle next : List Numbered) (number : ℕ) (t : Resting L)
+  pub exchange_order : (old mid new : Slots L) (idle next : List Numbered) (number : ℕ) (t : Resting L)
       → Leaves number old mid → Gains t mid new → next ≡ without number idle ++ numbered t ∷ [] → times t.grant.number idle ≡ 0
       → in_order new next ≡ but_for number (in_order old idle) ++ t ∷ []
   exchange_order old mid new idle next number t l g e unused =
@@ -144,7 +144,7 @@ module _ {L : Type 0} where
 
   -- ---- what a lend needs, keeps and shows
 
-  pub can_lend : (slots : List (Option (Option (Resting L)))) (pool next : PoolState) (tried : ℕ) (answer : PoolAnswer) → Lends pool tried answer next
+  pub can_lend : (slots : Slots L) (pool next : PoolState) (tried : ℕ) (answer : PoolAnswer) → Lends pool tried answer next
       → IsSound pool → AreKept slots pool.idle → CanLend answer slots
   can_lend slots pool next tried (Idle number member) h s k = one_held slots pool number member h.1 s k
   can_lend slots pool next tried (Dial number member) h s k = h.1
@@ -154,14 +154,14 @@ module _ {L : Type 0} where
   can_lend slots pool next tried (Handed number) h s k = h
   can_lend slots pool next tried Nothing h s k = h
 
-  same_kept : (old new : List (Option (Option (Resting L)))) (idle next : List Numbered) → new ≡ old → next ≡ idle → AreKept old idle → AreKept new next
+  same_kept : (old new : Slots L) (idle next : List Numbered) → new ≡ old → next ≡ idle → AreKept old idle → AreKept new next
   same_kept old new idle next e f k =
-      let P : List (Option (Option (Resting L))) → Type 0 = λ slots. AreKept slots next in subst P (sym e) (kept_along old idle next f k)
+      let P : Slots L → Type 0 = λ slots. AreKept slots next in subst P (sym e) (kept_along old idle next f k)
 
-  same_order : (old new : List (Option (Option (Resting L)))) (idle next : List Numbered) → new ≡ old → next ≡ idle → in_order new next ≡ in_order old idle
-  same_order old new idle next e f = ap (λ (slots : List (Option (Option (Resting L)))). in_order slots next) e ∙ ap (in_order old) f
+  same_order : (old new : Slots L) (idle next : List Numbered) → new ≡ old → next ≡ idle → in_order new next ≡ in_order old idle
+  same_order old new idle next e f = ap (λ (slots : Slots L). in_order slots next) e ∙ ap (in_order old) f
 
-  pub lend_kept : (old new : List (Option (Option (Resting L)))) (pool next : PoolState) (tried : ℕ) (answer : PoolAnswer)
+  pub lend_kept : (old new : Slots L) (pool next : PoolState) (tried : ℕ) (answer : PoolAnswer)
       → Lends pool tried answer next → MovesLent answer old new → IsSound pool → AreKept old pool.idle → AreKept new next.idle
   lend_kept old new pool next tried (Idle number member) h m s k =
       lent_kept old new pool.idle next.idle number m h.0 (one_held old pool number member h.1 s k) k
@@ -172,7 +172,7 @@ module _ {L : Type 0} where
   lend_kept old new pool next tried (Handed number) h m s k = absurd h
   lend_kept old new pool next tried Nothing h m s k = absurd h
 
-  pub lend_order : (old new : List (Option (Option (Resting L)))) (pool next : PoolState) (tried : ℕ) (answer : PoolAnswer)
+  pub lend_order : (old new : Slots L) (pool next : PoolState) (tried : ℕ) (answer : PoolAnswer)
       → Lends pool tried answer next → MovesLent answer old new → in_order new next.idle ≡ rests_lent answer (in_order old pool.idle)
   lend_order old new pool next tried (Idle number member) h m = lent_order old new pool.idle next.idle number m h.0
   lend_order old new pool next tried (Dial number member) h m = same_order old new pool.idle next.idle m h.0
@@ -182,7 +182,7 @@ module _ {L : Type 0} where
   lend_order old new pool next tried (Handed number) h m = absurd h
   lend_order old new pool next tried Nothing h m = absurd h
 
-  lend_idle : (slots : List (Option (Option (Resting L)))) (pool : PoolState) (number member : ℕ) (terms : Terms) (o : Option (Resting L)) (result : Lend L)
+  lend_idle : (slots : Slots L) (pool : PoolState) (number member : ℕ) (terms : Terms) (o : Option (Resting L)) (result : Lend L)
       → under number slots ≡ o → is_among number member pool.idle ≡ true → AreKept slots pool.idle
       → IsSomeAnd o (λ t. result ≡ lend.Idle (lent_on terms t))
       → IsSomeAnd (numbered_so number (in_order slots pool.idle)) (λ t. (t.grant.member ≡ member) × (result ≡ lend.Idle (lent_on terms t)))
@@ -191,7 +191,7 @@ module _ {L : Type 0} where
       let f = lent_found slots pool number member t a k e in
       rw f.0 (f.1, h)
 
-  pub lend_out : (slots : List (Option (Option (Resting L)))) (pool next : PoolState) (tried : ℕ) (answer : PoolAnswer) (terms : Terms) (result : Lend L)
+  pub lend_out : (slots : Slots L) (pool next : PoolState) (tried : ℕ) (answer : PoolAnswer) (terms : Terms) (result : Lend L)
       → Lends pool tried answer next → AreKept slots pool.idle → HandsOut terms pool.list.rows slots answer result
       → IsLent terms pool.list.rows (in_order slots pool.idle) answer result
   lend_out slots pool next tried (Idle number member) terms result h k o =
@@ -205,7 +205,7 @@ module _ {L : Type 0} where
 
   -- ---- what a giving back needs, keeps and shows
 
-  pub can_rest : (slots : List (Option (Option (Resting L)))) (pool next : PoolState) (t : Resting L) (answer : PoolAnswer)
+  pub can_rest : (slots : Slots L) (pool next : PoolState) (t : Resting L) (answer : PoolAnswer)
       → Gives pool (numbered t) answer next → IsSound pool → AreKept slots pool.idle → CanRest t answer slots
   can_rest slots pool next t (Idle number member) h s k = h
   can_rest slots pool next t (Dial number member) h s k = h
@@ -216,7 +216,7 @@ module _ {L : Type 0} where
       λ differ. let g = h.1 differ in (k.counted number ∙ g.1, k.counted t.grant.number ∙ g.0.unused)
   can_rest slots pool next t Nothing h s k = (room_for slots pool s k, k.counted t.grant.number ∙ h.unused)
 
-  pub give_kept : (old new : List (Option (Option (Resting L)))) (pool next : PoolState) (t : Resting L) (answer : PoolAnswer)
+  pub give_kept : (old new : Slots L) (pool next : PoolState) (t : Resting L) (answer : PoolAnswer)
       → Gives pool (numbered t) answer next → MovesGiven t answer old new → AreKept old pool.idle → AreKept new next.idle
   give_kept old new pool next t (Idle number member) h m k = absurd h
   give_kept old new pool next t (Dial number member) h m k = absurd h
@@ -232,7 +232,7 @@ module _ {L : Type 0} where
   ]
   give_kept old new pool next t Nothing h m k = rest_kept old new pool.idle next.idle t m h.idle h.unused k
 
-  pub give_order : (old new : List (Option (Option (Resting L)))) (pool next : PoolState) (t : Resting L) (answer : PoolAnswer)
+  pub give_order : (old new : Slots L) (pool next : PoolState) (t : Resting L) (answer : PoolAnswer)
       → Gives pool (numbered t) answer next → MovesGiven t answer old new
       → in_order new next.idle ≡ rests_given answer t (in_order old pool.idle)
   give_order old new pool next t (Idle number member) h m = absurd h
@@ -252,7 +252,7 @@ module _ {L : Type 0} where
   ]
   give_order old new pool next t Nothing h m = rest_order old new pool.idle next.idle t m h.idle h.unused
 
-  pub give_out : (slots : List (Option (Option (Resting L)))) (pool next : PoolState) (t : Resting L) (answer : PoolAnswer)
+  pub give_out : (slots : Slots L) (pool next : PoolState) (t : Resting L) (answer : PoolAnswer)
       → Gives pool (numbered t) answer next → AreKept slots pool.idle
       → handed_back t answer slots ≡ handed_out answer t (in_order slots pool.idle)
   give_out slots pool next t (Idle number member) h k = refl
@@ -278,7 +278,7 @@ module _ {L : Type 0} where
   idle_tried terms None result h = absurd h
   idle_tried terms (Some t) result h = untold terms result (lend.Idle (lent_on terms t)) h tt
 
-  pub lend_tried : (slots : List (Option (Option (Resting L)))) (pool next : PoolState) (answer : PoolAnswer) (terms : Terms) (result : Lend L)
+  pub lend_tried : (slots : Slots L) (pool next : PoolState) (answer : PoolAnswer) (terms : Terms) (result : Lend L)
       → Lends pool terms.tried answer next → RowsAreSound pool.list.rows → HandsOut terms pool.list.rows slots answer result → AllTried terms result
   lend_tried slots pool next (Idle number member) terms result h s o = idle_tried terms (under number slots) result o
   lend_tried slots pool next (Dial number member) terms result h s o = untold terms result _ o tt

@@ -1,6 +1,6 @@
 -- The links of idle transports in their order, and what a change of one slot keeps of them.
-use Rattle.std.proofs.Common.{◌≡◌, ◌≢◌, ℕ, ◌+◌, ◌≤◌, ◌==◌, ◌&&◌, Bool, true, false, not, eqb, cond, if◌then◌else◌, List, [], ◌∷◌, ◌++◌, length, filter}
-use Rattle.std.proofs.Common.{filter_map, find, map, Option, Some, None, IfSome, IsSomeAnd, refl, ap, sym, ◌∙◌, subst, arith}
+use Rattle.std.proofs.Common.{◌≡◌, ◌≢◌, ℕ, ◌+◌, ◌≤◌, ◌&&◌, true, false, not, eqb, cond, List, [], ◌∷◌, ◌++◌, length}
+use Rattle.std.proofs.Common.{map, Option, Some, None, IfSome, IsSomeAnd, refl, ap, sym, ◌∙◌, subst, arith}
 use Rattle.std.proofs.lemmas.Bool.{and_parts}
 use Rattle.std.proofs.lemmas.Bool.Decides.{nat_tests}
 use Rattle.std.proofs.lemmas.List.{length-append}
@@ -8,12 +8,12 @@ use Rattle.std.specs.List.{AllByRecursion, cons_option}
 use Rattle.transport_pool.specs.State.{without, is_among}
 use Rattle.transport_pool.specs.Sound.{times}
 use Rattle.transport_pool.specs.Grants.{Resting}
-use Rattle.transport_pool.specs.Slots.{numbered, held, free, under, Leaves, Gains, most_kept}
+use Rattle.transport_pool.specs.Slots.{Slots, numbered, under, Leaves, Gains}
 use Rattle.transport_pool.specs.House.{numbered_so, but_for}
 use Rattle.transport_pool.specs.HouseInside.{in_order, Lies, AreKept}
 use Rattle.transport_pool.specs.declared.numbers.Numbered.{Numbered}
 use Rattle.transport_pool.proofs.Finding.{has_number, times_append}
-use Rattle.transport_pool.proofs.Keeps.{times_without, all_push}
+use Rattle.transport_pool.proofs.Keeps.{times_without}
 
 -- as many go as have the number
 length_without : (number : ℕ) (ts : List Numbered) → length (without number ts) + times number ts ≡ length ts
@@ -35,7 +35,7 @@ first_differs number t ts h =
 
 module _ {L : Type 0} where
   -- what stands under a number has it
-  pub under_number : (number : ℕ) (slots : List (Option (Option (Resting L)))) → IfSome (under number slots) (λ t. t.grant.number ≡ number)
+  pub under_number : (number : ℕ) (slots : Slots L) → IfSome (under number slots) (λ t. t.grant.number ≡ number)
   under_number number [] = tt
   under_number number (None ∷ slots) = under_number number slots
   under_number number (Some None ∷ slots) = under_number number slots
@@ -57,7 +57,7 @@ module _ {L : Type 0} where
   stays_cons number own None rest test h = refl
   stays_cons number own (Some t) rest test h = let differ : eqb t.grant.number number ≡ false = rw h test in rw differ
 
-  pub order_without : (number : ℕ) (old new : List (Option (Option (Resting L)))) (idle : List Numbered) → Leaves number old new
+  pub order_without : (number : ℕ) (old new : Slots L) (idle : List Numbered) → Leaves number old new
       → in_order new (without number idle) ≡ but_for number (in_order old idle)
   order_without number old new [] l = refl
   order_without number old new (t ∷ idle) l =
@@ -73,10 +73,10 @@ module _ {L : Type 0} where
             rw (same, rest) (sym e)
       ] refl
 
-  lies_along : (old new : List (Option (Option (Resting L)))) (t : Numbered) → under t.number new ≡ under t.number old → Lies old t → Lies new t
+  lies_along : (old new : Slots L) (t : Numbered) → under t.number new ≡ under t.number old → Lies old t → Lies new t
   lies_along old new t e h = let P : Option (Resting L) → Type 0 = λ o. IsSomeAnd o (λ there. numbered there ≡ t) in subst P (sym e) h
 
-  lying_without : (number : ℕ) (old new : List (Option (Option (Resting L)))) (idle : List Numbered) → Leaves number old new
+  lying_without : (number : ℕ) (old new : Slots L) (idle : List Numbered) → Leaves number old new
       → AllByRecursion (Lies old) idle → AllByRecursion (Lies new) (without number idle)
   lying_without number old new [] l h = tt
   lying_without number old new (t ∷ idle) l h =
@@ -87,7 +87,7 @@ module _ {L : Type 0} where
             (lies_along old new t (l.others t.number differ) h.0, lying_without number old new idle l h.1)
       ] refl
 
-  pub kept_without : (number : ℕ) (old new : List (Option (Option (Resting L)))) (idle : List Numbered) → Leaves number old new
+  pub kept_without : (number : ℕ) (old new : Slots L) (idle : List Numbered) → Leaves number old new
       → times number idle ≡ 1 → AreKept old idle → AreKept new (without number idle)
   kept_without number old new idle l one k = record {
     room = (let a = l.freed in let b = k.room in let c = length_without number idle in omega arith);
@@ -101,7 +101,7 @@ module _ {L : Type 0} where
   cons_along None xs ys = refl
   cons_along (Some t) xs ys = refl
 
-  pub order_push : (t : Resting L) (old new : List (Option (Option (Resting L)))) (idle : List Numbered) → Gains t old new
+  pub order_push : (t : Resting L) (old new : Slots L) (idle : List Numbered) → Gains t old new
       → times t.grant.number idle ≡ 0 → in_order new (idle ++ numbered t ∷ []) ≡ in_order old idle ++ t ∷ []
   order_push t old new [] g none = rw g.own
   order_push t old new (x ∷ idle) g none =
@@ -110,14 +110,14 @@ module _ {L : Type 0} where
       let same = g.others x.number d.0 in
       rw (same, rest) (cons_along (under x.number old) (in_order old idle) (t ∷ []))
 
-  lying_push : (t : Resting L) (old new : List (Option (Option (Resting L)))) (idle : List Numbered) → Gains t old new
+  lying_push : (t : Resting L) (old new : Slots L) (idle : List Numbered) → Gains t old new
       → times t.grant.number idle ≡ 0 → AllByRecursion (Lies old) idle → AllByRecursion (Lies new) (idle ++ numbered t ∷ [])
   lying_push t old new [] g none h = (rw g.own refl, tt)
   lying_push t old new (x ∷ idle) g none h =
       let d = first_differs t.grant.number x idle none in
       (lies_along old new x (g.others x.number d.0) h.0, lying_push t old new idle g d.1 h.1)
 
-  pub kept_push : (t : Resting L) (old new : List (Option (Option (Resting L)))) (idle : List Numbered) → Gains t old new
+  pub kept_push : (t : Resting L) (old new : Slots L) (idle : List Numbered) → Gains t old new
       → times t.grant.number idle ≡ 0 → AreKept old idle → AreKept new (idle ++ numbered t ∷ [])
   kept_push t old new idle g none k = record {
     room = (let a = g.filled in let b = k.room in let c = length-append idle (numbered t ∷ []) in omega arith);
@@ -127,7 +127,7 @@ module _ {L : Type 0} where
 
   -- ---- what is found
 
-  found_step : (number : ℕ) (slots : List (Option (Option (Resting L)))) (x : Numbered) (o : Option (Resting L)) (rest : List (Resting L))
+  found_step : (number : ℕ) (slots : Slots L) (x : Numbered) (o : Option (Resting L)) (rest : List (Resting L))
       → under x.number slots ≡ o → IsSomeAnd o (λ there. numbered there ≡ x)
       → (eqb x.number number ≡ false → numbered_so number rest ≡ under number slots) → numbered_so number (cons_option o rest) ≡ under number slots
   found_step number slots x None rest e k h = absurd k
@@ -144,7 +144,7 @@ module _ {L : Type 0} where
       ] refl
 
   -- the transport of a number that is idle
-  pub order_found : (number : ℕ) (slots : List (Option (Option (Resting L)))) (idle : List Numbered) → 1 ≤ times number idle
+  pub order_found : (number : ℕ) (slots : Slots L) (idle : List Numbered) → 1 ≤ times number idle
       → AllByRecursion (Lies slots) idle → numbered_so number (in_order slots idle) ≡ under number slots
   order_found number slots [] some h = absurd (omega arith)
   order_found number slots (x ∷ idle) some h =
@@ -162,7 +162,7 @@ module _ {L : Type 0} where
   cons_numbers (Some t) x rest h = ap (λ (n : Numbered). n ∷ map numbered rest) h
 
   -- the member of a transport that is idle
-  pub among_lies : (number member : ℕ) (slots : List (Option (Option (Resting L)))) (idle : List Numbered) → is_among number member idle ≡ true
+  pub among_lies : (number member : ℕ) (slots : Slots L) (idle : List Numbered) → is_among number member idle ≡ true
       → AllByRecursion (Lies slots) idle → IsSomeAnd (under number slots) (λ there. there.grant.member ≡ member)
   among_lies number member slots [] e h = cc
   among_lies number member slots (x ∷ idle) e h =
@@ -180,7 +180,7 @@ module _ {L : Type 0} where
       ] refl
 
   -- the transports of the idle numbers have these numbers
-  pub order_numbers : (slots : List (Option (Option (Resting L)))) (idle : List Numbered) → AllByRecursion (Lies slots) idle
+  pub order_numbers : (slots : Slots L) (idle : List Numbered) → AllByRecursion (Lies slots) idle
       → map numbered (in_order slots idle) ≡ idle
   order_numbers slots [] h = refl
   order_numbers slots (x ∷ idle) h =

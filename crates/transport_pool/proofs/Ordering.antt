@@ -1,6 +1,7 @@
 -- A session that waits stays in order, whatever calls come, until it is served or leaves.
-use Rattle.std.proofs.Common.{◌≡◌, ◌≢◌, ◌⊎◌, ℕ, ◌+◌, ◌==◌, ◌&&◌, ◌||◌, Bool, true, false, not, eqb, leb, ltb, cond, List, [], ◌∷◌, ◌++◌, length, filter, Option, Some, None}
-use Rattle.std.proofs.Common.{refl, ap, sym, ◌∙◌, subst, inl, inr, arith}
+use Rattle.std.proofs.Common.{◌≡◌, ◌≢◌, ◌⊎◌, ℕ, ◌+◌, ◌==◌, ◌&&◌, ◌||◌, Bool, true, false, not}
+use Rattle.std.proofs.Common.{eqb, leb, ltb, cond, List, [], ◌∷◌, ◌++◌, length, filter, Option, Some, None}
+use Rattle.std.proofs.Common.{refl, ap, ◌∙◌, inl, inr, arith}
 use Rattle.std.proofs.lemmas.Bool.Decides.{nat_tests}
 use Rattle.server_list.specs.Lists.{Listing}
 use Rattle.server_list.specs.Layout.{known_rows, unless_empty}
@@ -10,7 +11,7 @@ use Rattle.transport_pool.specs.Steps.{Stepped, must_wait, after_leave, after_wa
 use Rattle.transport_pool.specs.Steps.{oldest_of, most_idle, is_newer, learned, after_learn, pool_step}
 use Rattle.transport_pool.specs.declared.numbers.Numbered.{Numbered}
 use Rattle.transport_pool.specs.declared.entry.PoolAnswer.{PoolAnswer}
-use Rattle.transport_pool.specs.declared.entry.PoolAnswer.TheVariants.{Idle, Dial, Queue, NoneLeft, Worn, Handed, Nothing}
+use Rattle.transport_pool.specs.declared.entry.PoolAnswer.TheVariants.{Dial, Queue, Worn, Handed, Nothing}
 use Rattle.transport_pool.specs.declared.entry.PoolCall.{PoolCall}
 use Rattle.transport_pool.specs.declared.entry.PoolCall.TheVariants.{Lend, GiveBack, Lost, Learn, Leave}
 use Rattle.transport_pool.specs.Runs.{after_calls}

@@ -1,11 +1,10 @@
 -- A pool with its links: what was decided, as plain numbers, and the links of the idle transports beside them. This
 -- project's own.
-use Rattle.std.specs.Prelude.{◌≡◌, ℕ, ◌+◌, Bool, ◌==◌, nat_lt, not, if◌then◌else◌, List, [], ◌∷◌, ◌++◌, filter, find, filter_map, Option, Some, None, IsSomeAnd}
-use Rattle.transport_pool.specs.State.{PoolState}
+use Rattle.std.specs.Prelude.{ℕ, ◌+◌, Bool, ◌==◌, nat_lt, not, if◌then◌else◌, List, [], ◌∷◌, ◌++◌, filter, find, Option, Some, None}
 use Rattle.server_list.specs.Lists.{Listing}
 use Rattle.transport_pool.specs.Steps.{pool_step}
 use Rattle.transport_pool.specs.Journal.{Decided, nothing_decided, decided_after}
-use Rattle.transport_pool.specs.Grants.{Granted, Resting}
+use Rattle.transport_pool.specs.Grants.{Resting}
 use Rattle.transport_pool.specs.declared.entry.PoolCall.{PoolCall}
 use Rattle.transport_pool.specs.declared.entry.PoolCall.TheVariants as call
 use Rattle.transport_pool.specs.declared.entry.PoolAnswer.{PoolAnswer}

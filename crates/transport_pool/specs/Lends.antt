@@ -3,8 +3,8 @@ use Rattle.std.specs.Prelude.{◌≡◌, ℕ, true, List, IsSomeAnd}
 use Rattle.server_list.specs.declared.list.ServerRow.{ServerRow}
 use Rattle.transport_pool.specs.Counts.{rose}
 use Rattle.transport_pool.specs.Steps.{members_of}
-use Rattle.transport_pool.specs.Grants.{Granted, Resting, is_within}
-use Rattle.transport_pool.specs.House.{numbered_so}
+use Rattle.transport_pool.specs.Grants.{Resting, is_within}
+use Rattle.transport_pool.specs.House.{HouseState, numbered_so, answer_to, lend_of}
 use Rattle.transport_pool.specs.declared.entry.PoolAnswer.{PoolAnswer}
 use Rattle.transport_pool.specs.declared.entry.PoolAnswer.TheVariants as answer
 use Rattle.transport_pool.specs.declared.terms.Terms.{Terms}
@@ -28,6 +28,11 @@ module _ {L : Type 0} where
       result ≡ lend.NoneLeft (record { members = members_of rows; terms = terms })
   IsLent terms rows resting answer.Worn result = result ≡ lend.Worn (record { terms = terms })
   IsLent terms rows resting _ result = ⊥
+
+  -- what a house hands out by a lend on these terms
+  abbrev pub LendsOut : HouseState L → Terms → Lend L → Type 0
+  LendsOut house terms result =
+      IsLent terms house.decided.pool.list.rows house.resting (answer_to house (lend_of terms)) result
 
   -- what is handed out has these terms
   abbrev pub HasTerms : Terms → Lend L → Type 0

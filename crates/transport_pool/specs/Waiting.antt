@@ -2,8 +2,9 @@
 use Rattle.std.specs.Prelude.{◌≡◌, ◌≢◌, ℕ, Bool, true, ◌==◌, if◌then◌else◌, List, [], ◌∷◌, filter}
 use Rattle.transport_pool.specs.State.{PoolState, is_waiting}
 use Rattle.transport_pool.specs.Steps.{pool_step}
+use Rattle.transport_pool.specs.Runs.{after_calls}
 use Rattle.transport_pool.specs.declared.entry.PoolCall.{PoolCall}
-use Rattle.transport_pool.specs.declared.entry.PoolCall.TheVariants.{Lend, GiveBack, Lost, Learn, Leave}
+use Rattle.transport_pool.specs.declared.entry.PoolCall.TheVariants.{Lend, Leave}
 use Rattle.transport_pool.specs.declared.entry.PoolAnswer.TheVariants.{Queue}
 
 -- the sessions that wait before this one
@@ -28,3 +29,9 @@ abbrev pub IsUnservedThrough : ℕ → PoolState → List PoolCall → Type 0
 IsUnservedThrough session pool [] = Unit {0}
 IsUnservedThrough session pool (call ∷ calls) =
     IsUnserved session pool call × IsUnservedThrough session (pool_step pool call).state calls
+
+-- over these calls a session that waits and that none of them serves stays in order
+abbrev pub KeepsOrder : PoolState → List PoolCall → ℕ → Type 0
+KeepsOrder pool calls session =
+    IsUnservedThrough session pool calls → is_waiting session pool.waiting ≡ true
+    → StaysInOrder session pool.waiting (after_calls pool calls).waiting

@@ -46,8 +46,9 @@ impl<L: Drop> House<L> {
     ghost use Rattle.transport_pool.specs.Slots.{numbered};
     ghost use Rattle.transport_pool.specs.declared.entry.PoolCall.TheVariants as PoolCall;
     ghost use Rattle.transport_pool.specs.HouseInside.{AreAtRest};
-    ghost use Rattle.transport_pool.specs.House.{HouseState, empty_house, called, answer_to, terms_of, give_of, after_lend, after_give, handed_out, next_ticket, after_ticket};
-    ghost use Rattle.transport_pool.specs.Lends.{IsLent, HasTerms, AllTried, dialled};
+    ghost use Rattle.transport_pool.specs.House.{HouseState, empty_house, called, answer_to, next_ticket, after_ticket};
+    ghost use Rattle.transport_pool.specs.House.{terms_of, after_lend, give_of, after_give, handed_out};
+    ghost use Rattle.transport_pool.specs.Lends.{LendsOut, HasTerms, AllTried, dialled};
 
     /// A pool without transports, in which so many may be lent, with this list, whose members are those that can be listed
     /// from then on, and with numbers for so many sessions. No later call takes memory.
@@ -79,7 +80,7 @@ impl<L: Drop> House<L> {
     /// wanted; else the right to dial one with the next number; Worn where there is no next number.
     pub fn lend(&mut self, session: u32, tried: Tried, fresh: bool) -> Lend<L>
         ensures house { self.new ≡ after_lend self.old (terms_of session tried fresh) }
-        ensures lent { IsLent (terms_of session tried fresh) self.old.decided.pool.list.rows self.old.resting (answer_to self.old (PoolCall.Lend session tried fresh)) result }
+        ensures lent { LendsOut self.old (terms_of session tried fresh) result }
         ensures terms { HasTerms (terms_of session tried fresh) result }
         ensures tried { AllTried (terms_of session tried fresh) result }
         ensures dials { self.new.decided.dials ≡ dialled result self.old.decided.dials }

@@ -1,10 +1,10 @@
-ghost use Rattle.std.specs.Prelude.{◌≡◌, ℕ, ◌≤◌, List, true};
+ghost use Rattle.std.specs.Prelude.{ℕ, ◌≤◌, List};
 ghost use Rattle.server_list.specs.Lists.{Listing};
-ghost use Rattle.transport_pool.specs.State.{PoolState, is_waiting};
+ghost use Rattle.transport_pool.specs.State.{PoolState};
 ghost use Rattle.transport_pool.specs.Steps.{empty_pool};
 ghost use Rattle.transport_pool.specs.Sound.{RowsAreSound, Holds};
 ghost use Rattle.transport_pool.specs.Runs.{after_calls};
-ghost use Rattle.transport_pool.specs.Waiting.{IsUnservedThrough, StaysInOrder};
+ghost use Rattle.transport_pool.specs.Waiting.{KeepsOrder};
 ghost use Rattle.transport_pool.specs.declared.entry.PoolCall.{PoolCall};
 
 /// After any calls of a new pool all numbers of idle and lent transports differ, and no more are lent than may be.
@@ -15,5 +15,5 @@ pub fn limits_hold()
 /// A session that waits stays in order over any calls that don't serve it: it still waits, and before it stand only
 /// sessions that stood there, in the same order.
 pub fn order_holds()
-    ensures { (pool : PoolState) (calls : List PoolCall) (session : ℕ) → IsUnservedThrough session pool calls → is_waiting session pool.waiting ≡ true → StaysInOrder session pool.waiting (after_calls pool calls).waiting }
+    ensures { (pool : PoolState) (calls : List PoolCall) (session : ℕ) → KeepsOrder pool calls session }
 {}

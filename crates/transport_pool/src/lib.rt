@@ -1,5 +1,6 @@
-//! The pool of transports to the members of a group, as plain numbers: which session is lent which transport, who waits,
-//! and the list in use; and the journal of what was decided, call by call.
+//! The pool of transports to the members of a group: which session is lent which transport, who waits, and the list in
+//! use, decided as plain numbers; the links of the idle transports beside them; and the journal of what was decided, call
+//! by call.
 #![tactic(auto)]
 
 mod decisions;

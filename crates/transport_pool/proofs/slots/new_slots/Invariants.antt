@@ -1,4 +1,4 @@
-use Rattle.std.proofs.Common.{◌≡◌, ℕ, ◌≤◌, ◌+◌, true}
+use Rattle.std.proofs.Common.{◌≡◌, ℕ, ◌≤◌, true}
 use Rattle.slab.specs.Slab.{get, slab_len}
 use Rattle.transport_pool.specs.Slots.{most_kept, is_blank}
 use Rattle.transport_pool.proofs.slots.new_slots.Given as goal

@@ -1,4 +1,3 @@
-use Rattle.std.proofs.Common.{sym, ◌∙◌}
 use Rattle.transport_pool.proofs.Lying.{found_at, leaves_at}
 use Rattle.transport_pool.proofs.slots.take.Goals as goal
 

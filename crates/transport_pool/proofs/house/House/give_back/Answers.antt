@@ -3,7 +3,8 @@ use Rattle.transport_pool.specs.House.{rests_given, handed_out}
 use Rattle.transport_pool.specs.HouseInside.{in_order}
 use Rattle.transport_pool.specs.declared.entry.PoolAnswer.{PoolAnswer}
 use Rattle.transport_pool.specs.declared.entry.PoolCall.TheVariants as call
-use Rattle.transport_pool.proofs.Housed.{idle_after, gives_told, kept_along, order_same, can_rest, give_kept, give_order, give_out, shows, still_along, still_given}
+use Rattle.transport_pool.proofs.Housed.{idle_after, gives_told, kept_along, order_same, shows, still_along, still_given}
+use Rattle.transport_pool.proofs.Housed.{can_rest, give_kept, give_order, give_out}
 use Rattle.transport_pool.proofs.house.House.give_back.Goals as goal
 
 pub lay_to_rest-requires : goal.lay_to_rest-requires

@@ -1,11 +1,12 @@
-use Rattle.std.proofs.Common.{◌≡◌, ◌∙◌, ap, subst, sym, List}
+use Rattle.std.proofs.Common.{◌≡◌, ◌∙◌, ap, subst, sym}
 use Rattle.transport_pool.specs.Journal.{Decided, dials_after}
 use Rattle.transport_pool.specs.House.{terms_of, rests_lent}
 use Rattle.transport_pool.specs.HouseInside.{in_order}
 use Rattle.transport_pool.specs.Lends.{IsLent}
 use Rattle.transport_pool.specs.declared.entry.PoolAnswer.{PoolAnswer}
 use Rattle.transport_pool.specs.declared.entry.PoolCall.TheVariants as call
-use Rattle.transport_pool.proofs.Housed.{idle_after, lends_told, kept_along, order_same, can_lend, lend_kept, lend_order, lend_out, lend_tried, lent_terms, shows, still_along, still_lent}
+use Rattle.transport_pool.proofs.Housed.{idle_after, lends_told, kept_along, order_same, shows, still_along, still_lent}
+use Rattle.transport_pool.proofs.Housed.{can_lend, lend_kept, lend_order, lend_out, lend_tried, lent_terms}
 use Rattle.transport_pool.proofs.house.House.lend.Goals as goal
 
 pub hand_out-requires : goal.hand_out-requires
