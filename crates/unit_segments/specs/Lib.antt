@@ -10,3 +10,5 @@ pub mod Registers
 pub mod Body
 pub mod ChainReader
 pub mod Cut
+pub mod Grammar
+pub mod BadChain

@@ -7,6 +7,7 @@ mod chain_reader;
 mod command;
 mod fault;
 mod join;
+mod laws;
 mod registers;
 mod segment;
 mod share;
@@ -16,6 +17,9 @@ pub use chain_reader::ChainReader;
 pub use command::{Chain, Command, CommandList};
 pub use fault::ChainFault;
 pub use join::join_replies;
+pub use laws::{
+    body_fault_is_the_first, segments_are_one_list, segments_are_the_chain, sound_bodies_are_read,
+};
 pub use registers::RegisterFault;
 pub use segment::{Segment, SegmentList, cut};
 pub use strip::Stripped;
