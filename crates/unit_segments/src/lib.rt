@@ -18,7 +18,8 @@ pub use command::{Chain, Command, CommandList};
 pub use fault::ChainFault;
 pub use join::join_replies;
 pub use laws::{
-    body_fault_is_the_first, segments_are_one_list, segments_are_the_chain, sound_bodies_are_read,
+    body_fault_is_the_first, chains_are_one_list, chains_are_read, first_fault_is_told, read_are_chains,
+    segments_are_one_list, segments_are_the_chain, sound_bodies_are_read, told_fault_is_the_first,
 };
 pub use registers::RegisterFault;
 pub use segment::{Segment, SegmentList, cut};
