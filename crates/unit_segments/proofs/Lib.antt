@@ -6,3 +6,4 @@ pub mod Segmented
 pub mod Steps
 pub mod Fronts
 pub mod ReadChains
+pub mod WrittenChains

@@ -12,3 +12,4 @@ pub mod ChainReader
 pub mod Cut
 pub mod Grammar
 pub mod BadChain
+pub mod Written

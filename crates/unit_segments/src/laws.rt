@@ -1,6 +1,6 @@
 //! Laws of chains and their segments. Each function is a law: it does nothing, and what it ensures holds of every value.
 
-ghost use Rattle.std.specs.Prelude.{◌≡◌, ℕ, ◌++◌, List, map, None, Some};
+ghost use Rattle.std.specs.Prelude.{◌≡◌, ℕ, ◌≤◌, ◌++◌, List, map, length, None, Some};
 ghost use Rattle.std.specs.List.{AllByRecursion};
 ghost use Rattle.link_ends.specs.Bytes.{AreBytes};
 ghost use Rattle.unit_segments.specs.declared.command.Command.{Command};
@@ -11,6 +11,8 @@ ghost use Rattle.unit_segments.specs.Chain.{chains_of};
 ghost use Rattle.unit_segments.specs.Grammar.{IsSound, IsChain, Chained, Begins, AreChains};
 ghost use Rattle.unit_segments.specs.BadChain.{IsBodyFault, IsBadChain};
 ghost use Rattle.unit_segments.specs.Segment.{segments_of, AreSegments};
+ghost use Rattle.unit_segments.specs.Spelling.{chain_bytes};
+ghost use Rattle.unit_segments.specs.Written.{commands_from, AreWritable, IsReadAs};
 
 /// The segments of a chain, in order, are its commands; each is a command alone or a run that ends with its unit of work
 /// at most; and none could be longer.
@@ -73,4 +75,10 @@ pub fn chains_are_one_list()
         → a ++ x ≡ b ++ y → (a ≡ b) × (commands ≡ others) }
     ensures list { (commands others : List (List Command)) (rest other placed : List Placed) → AreChains commands rest placed
         → AreChains others other placed → (commands ≡ others) × (rest ≡ other) }
+{}
+
+/// A chain of commands that is written is read again as these commands, each with the place of its request.
+pub fn written_chain_is_read()
+    ensures { (limit : ℕ) (commands : List Command) → AreWritable commands → AreBytes (chain_bytes commands)
+        → length (chain_bytes commands) ≤ limit → IsReadAs limit (commands_from 0 commands) (chain_bytes commands) }
 {}

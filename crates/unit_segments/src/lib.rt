@@ -20,6 +20,7 @@ pub use join::join_replies;
 pub use laws::{
     body_fault_is_the_first, chains_are_one_list, chains_are_read, first_fault_is_told, read_are_chains,
     segments_are_one_list, segments_are_the_chain, sound_bodies_are_read, told_fault_is_the_first,
+    written_chain_is_read,
 };
 pub use registers::RegisterFault;
 pub use segment::{Segment, SegmentList, cut};
