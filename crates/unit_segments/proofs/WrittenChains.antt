@@ -24,7 +24,7 @@ use Rattle.unit_segments.specs.Chain.{no_chain, chains_of, chains_from}
 use Rattle.unit_segments.specs.Grammar.{kind_after, IsNext, none_before, AreLinked, goes_on_after, command_with, Grouped, grouped_with, grouped, commands_of}
 use Rattle.unit_segments.specs.Grammar.{HasSoundBody, IsChain, Chained, Begins}
 use Rattle.unit_segments.specs.Spelling.{is_last, command_dss, object_dsss, command_dsss, chain_dsss, chain_bytes}
-use Rattle.unit_segments.specs.Written.{size_of, placed_from, commands_from, IsWritable, last_goes_on, AreWritable, IsReadAs}
+use Rattle.unit_segments.specs.Written.{size_of, placed_from, commands_from, IsWritable, AreWritable, IsReadAs}
 use Rattle.unit_segments.proofs.ReadChains.{chains_read}
 
 -- ---- the DSSs stand at their places
@@ -168,10 +168,13 @@ object_bodies command followed (body ∷ bodies) place =
     ap (λ (bs : List (List ℕ)). body ∷ bs)
     (object_bodies command followed bodies (place + length (canonical (command_dss Object command followed (is_last bodies) body))))
 
-command_again : (command : Command) (followed : Bool) (place next : ℕ) → IsWritable command → (followed && command.go_on) ≡ command.go_on →
+abbrev again : Command → Bool → ℕ → Command
+again command followed place = record command { go_on = followed && command.go_on; at = told place }
+
+command_again : (command : Command) (followed : Bool) (place next : ℕ) → IsWritable command →
     command_with (record { at = told place; dss = command_dss Request command followed (is_last command.objects) command.body })
-    (placed_from next (object_dsss command followed command.objects)) ≡ record command { at = told place }
-command_again command followed place next fits on =
+    (placed_from next (object_dsss command followed command.objects)) ≡ again command followed place
+command_again command followed place next fits =
     ap (λ (n : ℕ). record {
       code = n;
       corr = command.corr;
@@ -185,34 +188,26 @@ command_again command followed place next fits on =
       go_on = b;
       at = told place;
       objects = map (λ (p : Placed). p.dss.body) (placed_from next (object_dsss command followed command.objects));
-    }) (go_on_objects Request command.body command followed command.objects next ∙ on)
-    ∙ ap (λ (bs : List (List ℕ)). record command { at = told place; objects = bs }) (object_bodies command followed command.objects next)
+    }) (go_on_objects Request command.body command followed command.objects next)
+    ∙ ap (λ (bs : List (List ℕ)). record (again command followed place) { objects = bs }) (object_bodies command followed command.objects next)
 
-last_on : (command : Command) (commands : List Command) → last_goes_on (command ∷ commands) ≡ false → (not (is_last commands) && command.go_on) ≡ command.go_on
-last_on command [] last = sym last
-last_on command (next ∷ commands) last = refl
-
-last_rest : (command : Command) (commands : List Command) → last_goes_on (command ∷ commands) ≡ false → last_goes_on commands ≡ false
-last_rest command [] last = refl
-last_rest command (next ∷ commands) last = last
-
-group_chain : (commands : List Command) (place : ℕ) → AllByRecursion IsWritable commands → last_goes_on commands ≡ false →
+group_chain : (commands : List Command) (place : ℕ) → AllByRecursion IsWritable commands →
     grouped (placed_from place (chain_dsss commands)) ≡ record { objects = []; commands = commands_from place commands }
-group_chain [] place each last = refl
-group_chain (command ∷ commands) place each last =
+group_chain [] place each = refl
+group_chain (command ∷ commands) place each =
     let followed : Bool = not (is_last commands) in
     let d : Dss = command_dss Request command followed (is_last command.objects) command.body in
     let objects : List Dss = object_dsss command followed command.objects in
     let next : ℕ = place + length (canonical d) in
     let behind : ℕ = next + size_of objects in
     let at : behind ≡ place + size_of (d ∷ objects) = omega (arith, length-append (canonical d) (flat_map canonical objects)) in
-    let rest = group_chain commands behind each.1 (last_rest command commands last) in
+    let rest = group_chain commands behind each.1 in
     ap (grouped_with (record { at = told place; dss = d }) true)
     (group_objects command followed command.objects (chain_dsss commands) next (ap (λ (g : Grouped). g.objects) rest))
     ∙ ap (λ (c : Command). record { objects = []; commands = c ∷ (grouped (placed_from behind (chain_dsss commands))).commands })
-    (command_again command followed place next each.0 (last_on command commands last))
-    ∙ ap (λ (g : Grouped). record { objects = []; commands = record command { at = told place } ∷ g.commands }) rest
-    ∙ ap (λ (n : ℕ). record { objects = []; commands = record command { at = told place } ∷ commands_from n commands }) at
+    (command_again command followed place next each.0)
+    ∙ ap (λ (g : Grouped). record { objects = []; commands = again command followed place ∷ g.commands }) rest
+    ∙ ap (λ (n : ℕ). record { objects = []; commands = again command followed place ∷ commands_from n commands }) at
 
 count_same : (commands : List Command) (place : ℕ) → length (commands_from place commands) ≡ length commands
 count_same [] place = refl
@@ -223,7 +218,7 @@ count_same (command ∷ commands) place = ap suc (count_same commands (place + s
 written_chain : (commands : List Command) → AreWritable commands → IsChain (commands_from 0 commands) (placed_from 0 (chain_dsss commands))
 written_chain commands fits =
     let are : commands_of (placed_from 0 (chain_dsss commands)) ≡ commands_from 0 commands =
-    ap (λ (g : Grouped). g.commands) (group_chain commands 0 fits.each fits.last) in
+    ap (λ (g : Grouped). g.commands) (group_chain commands 0 fits.each) in
     record {
       whole = record {
         linked = linked commands 0 fits.some;

@@ -1,5 +1,5 @@
 -- What is written of commands, and bytes as chains: DRDA, volume 3, DSS: chaining.
-use Rattle.std.specs.Prelude.{◌≡◌, ℕ, ◌+◌, ◌<◌, ◌≤◌, ◌^◌, Bool, false, not, List, [], ◌∷◌, length, take, None}
+use Rattle.std.specs.Prelude.{◌≡◌, ℕ, ◌+◌, ◌<◌, ◌≤◌, ◌^◌, not, ◌&&◌, List, [], ◌∷◌, length, take, None}
 use Rattle.std.specs.List.{flat_map, AllByRecursion}
 use Rattle.dss_frame.specs.declared.dss.Side.TheVariants.{Requests}
 use Rattle.dss_frame.specs.declared.dss.Dss.{Dss}
@@ -25,11 +25,13 @@ abbrev pub placed_from : ℕ → List Dss → List Placed
 placed_from place [] = []
 placed_from place (d ∷ dsss) = record { at = told place; dss = d } ∷ placed_from (place + length (canonical d)) dsss
 
--- the commands of a chain that is written, each with the place of its request, the first at this one
+-- The commands of a chain that is written, each with the place of its request, the first at this one. The last doesn't say
+-- that the chain goes on after an error, since nothing goes on behind it: this project's choice.
 abbrev pub commands_from : ℕ → List Command → List Command
 commands_from place [] = []
 commands_from place (command ∷ commands) =
-    record command { at = told place } ∷ commands_from (place + size_of (command_dsss (not (is_last commands)) command)) commands
+    record command { go_on = not (is_last commands) && command.go_on; at = told place }
+    ∷ commands_from (place + size_of (command_dsss (not (is_last commands)) command)) commands
 
 -- ---- what is read again
 
@@ -40,18 +42,11 @@ pub record IsWritable (command : Command) : Type 0 where
   pub code : code_of command.body ≡ command.code
   pub sound : IsSound command.body
 
--- Whether the last command says that the chain goes on after an error. Behind a chain nothing goes on: this project's choice.
-abbrev pub last_goes_on : List Command → Bool
-last_goes_on [] = false
-last_goes_on (command ∷ []) = command.go_on
-last_goes_on (command ∷ next ∷ commands) = last_goes_on (next ∷ commands)
-
 -- the commands of a chain that is read again as it was written
 pub record AreWritable (commands : List Command) : Type 0 where
   pub some : 0 < length commands
   pub count : length commands ≤ most_commands
   pub each : AllByRecursion IsWritable commands
-  pub last : last_goes_on commands ≡ false
 
 -- The bytes are read as one chain of these commands, and nothing else, where a chain may have so many bytes.
 pub record IsReadAs (limit : ℕ) (commands : List Command) (bytes : List ℕ) : Type 0 where
