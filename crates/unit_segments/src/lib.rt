@@ -11,7 +11,7 @@ mod laws;
 mod registers;
 mod segment;
 mod share;
-mod strip;
+mod stripped;
 
 pub use chain_reader::ChainReader;
 pub use command::{Chain, Command, CommandList};
@@ -24,7 +24,7 @@ pub use laws::{
 };
 pub use registers::RegisterFault;
 pub use segment::{Segment, SegmentList, cut};
-pub use strip::Stripped;
+pub use stripped::Stripped;
 
 #[cfg(test)]
 mod tests;
