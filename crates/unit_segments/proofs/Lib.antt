@@ -7,3 +7,6 @@ pub mod Steps
 pub mod Fronts
 pub mod ReadChains
 pub mod WrittenChains
+pub mod Sound
+pub mod ReadAgain
+pub mod SpelledChains

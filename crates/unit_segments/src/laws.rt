@@ -1,18 +1,28 @@
 //! Laws of chains and their segments. Each function is a law: it does nothing, and what it ensures holds of every value.
 
-ghost use Rattle.std.specs.Prelude.{◌≡◌, ℕ, ◌≤◌, ◌++◌, List, map, length, None, Some};
+ghost use Rattle.std.specs.Prelude.{◌≡◌, ℕ, ◌≤◌, ◌∷◌, ◌++◌, List, map, length, None, Some};
 ghost use Rattle.std.specs.List.{AllByRecursion};
 ghost use Rattle.link_ends.specs.Bytes.{AreBytes};
 ghost use Rattle.unit_segments.specs.declared.command.Command.{Command};
-ghost use Rattle.unit_segments.specs.Command.{BodyFault, body_fault};
+ghost use Rattle.unit_segments.specs.Command.{BodyFault, body_fault, code_of};
 ghost use Rattle.dss_frame.specs.declared.dss.Placed.{Placed};
+ghost use Rattle.dss_frame.specs.declared.dss.Side.TheVariants.{Requests};
+ghost use Rattle.dss_frame.specs.Told.{read};
 ghost use Rattle.unit_segments.specs.declared.fault.ChainFault.{ChainFault};
 ghost use Rattle.unit_segments.specs.Chain.{chains_of};
 ghost use Rattle.unit_segments.specs.Grammar.{IsSound, IsChain, Chained, Begins, AreChains};
 ghost use Rattle.unit_segments.specs.BadChain.{IsBodyFault, IsBadChain};
 ghost use Rattle.unit_segments.specs.Segment.{segments_of, AreSegments};
-ghost use Rattle.unit_segments.specs.Spelling.{chain_bytes};
-ghost use Rattle.unit_segments.specs.Written.{commands_from, AreWritable, IsReadAs};
+ghost use Rattle.ddm_codepoints.specs.CodePoint.{secchk, accrdb};
+ghost use Rattle.access_handshake.specs.declared.access.Access.{Access};
+ghost use Rattle.access_handshake.specs.declared.stage.Stage.TheVariants.{Accessed};
+ghost use Rattle.access_handshake.specs.Access.{access_chain};
+ghost use Rattle.unit_segments.specs.Limit.{most_chain_bytes};
+ghost use Rattle.unit_segments.specs.Spelling.{chain_bytes, numbered};
+ghost use Rattle.unit_segments.specs.Release.{asked, asked_bytes};
+ghost use Rattle.unit_segments.specs.Registers.{Register, log_chain, log_bytes};
+ghost use Rattle.unit_segments.specs.Handshake.{access_commands};
+ghost use Rattle.unit_segments.specs.Written.{commands_from, AreWritable, IsReadAs, SpellChains};
 
 /// The segments of a chain, in order, are its commands; each is a command alone or a run that ends with its unit of work
 /// at most; and none could be longer.
@@ -77,8 +87,42 @@ pub fn chains_are_one_list()
         → AreChains others other placed → (commands ≡ others) × (rest ≡ other) }
 {}
 
+/// Bytes are one list of chains at most, however their DSSs are cut into segments. What is read of bytes without a fault is
+/// this list.
+pub fn bytes_are_one_list()
+    ensures one { (commands others : List (List Command)) (bytes : List ℕ) → SpellChains commands bytes
+        → SpellChains others bytes → commands ≡ others }
+    ensures read { (limit : ℕ) (bytes : List ℕ) → AreBytes bytes → (read Requests limit bytes).fault ≡ None
+        → AllByRecursion (λ p. AreBytes p.dss.body) (read Requests limit bytes).whole
+        → (chains_of (read Requests limit bytes).whole).fault ≡ None
+        → SpellChains (chains_of (read Requests limit bytes).whole).chains bytes }
+{}
+
 /// A chain of commands that is written is read again as these commands, each with the place of its request.
 pub fn written_chain_is_read()
     ensures { (limit : ℕ) (commands : List Command) → AreWritable commands → AreBytes (chain_bytes commands)
         → length (chain_bytes commands) ≤ limit → IsReadAs limit (commands_from 0 commands) (chain_bytes commands) }
+{}
+
+/// What a member is sent of a segment, with the asking for release, is read there as these commands.
+pub fn asked_segment_is_read()
+    ensures { (limit : ℕ) (segment : List Command) → AreWritable segment
+        → AllByRecursion (λ command. length command.body ≤ most_chain_bytes) segment
+        → AreBytes (asked_bytes segment) → length (asked_bytes segment) ≤ limit
+        → IsReadAs limit (commands_from 0 (numbered 1 (map asked segment))) (asked_bytes segment) }
+{}
+
+/// The chain that asks for access is read as ACCSEC, SECCHK and ACCRDB.
+pub fn access_chain_is_read()
+    ensures { (limit : ℕ) (access : Access) (name : List ℕ) → length name ≤ 18
+        → code_of access.secchk ≡ secchk → IsSound access.secchk → code_of access.accrdb ≡ accrdb → IsSound access.accrdb
+        → AreBytes (access_chain access name) → length (access_chain access name) ≤ limit
+        → IsReadAs limit (commands_from 0 (numbered 1 (access_commands name Accessed access))) (access_chain access name) }
+{}
+
+/// The chain of the registers is read as one EXCSQLSET.
+pub fn register_chain_is_read()
+    ensures { (limit : ℕ) (register : Register) (log : List Register) → AreBytes (log_bytes (register ∷ log))
+        → length (log_bytes (register ∷ log)) ≤ limit
+        → IsReadAs limit (commands_from 0 (log_chain (register ∷ log))) (log_bytes (register ∷ log)) }
 {}
