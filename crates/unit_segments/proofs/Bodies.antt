@@ -1,5 +1,5 @@
 -- A command's body has a fault exactly where it isn't sound.
-use Rattle.std.proofs.Common.{◌≡◌, ℕ, zero, suc, ◌+◌, ◌-◌, ◌<◌, ◌≤◌, Bool, true, false, cond, eqb, List, [], ◌∷◌, ◌++◌, length, take, drop}
+use Rattle.std.proofs.Common.{◌≡◌, ℕ, ◌+◌, ◌-◌, ◌<◌, Bool, true, false, cond, eqb, List, [], ◌∷◌, ◌++◌, length, take, drop}
 use Rattle.std.proofs.Common.{Option, Some, None, Result, Ok, Err, refl, sym, ap, ◌∙◌, subst, arith, inl, inr}
 use Rattle.std.specs.Prelude.{◌&&◌, nat_le, ◌==◌}
 use Rattle.std.proofs.lemmas.Bool.{cond-true, cond-false, cases_Bool, ne_eqb}
@@ -10,16 +10,16 @@ use Rattle.link_ends.proofs.Bytes.{AreBytes-drop}
 use Rattle.byteorder.specs.Endian.{big_number, big_bytes}
 use Rattle.ddm_objects.specs.declared.fault.ObjFault.{ObjFault}
 use Rattle.ddm_objects.specs.declared.fault.ObjWhy.TheVariants.{Past}
-use Rattle.ddm_objects.specs.Objects.{Member, Found, StartsWith, IsObject, IsFrontFault, IsLeftOver, IsOuterFault, spelling, length_field, extended_length}
+use Rattle.ddm_objects.specs.Objects.{Member, Found, StartsWith, IsObject, IsFrontFault, IsOuterFault, spelling, length_field, extended_length}
 use Rattle.ddm_objects.specs.Objects.{fault_at, object_at, to_end, first_object, only_object, outer_of}
-use Rattle.ddm_objects.specs.Members.{Members, AreMembers, IsFirstFault, past, with_first, members_from, members_within, members_of}
+use Rattle.ddm_objects.specs.Members.{Members, AreMembers, IsFirstFault, past, with_first, members_from, members_of}
 use Rattle.ddm_objects.proofs.Reading.Read.{object_found, members_step}
 use Rattle.ddm_objects.proofs.Reading.Spelled.{begins_again, first_takes, first_again, outer_takes, outer_again, members_again, members_take}
 use Rattle.ddm_objects.proofs.Reading.Faults.{members_first_fault, outer_first_fault}
 use Rattle.ddm_codepoints.specs.CodeClass.{class_of}
 use Rattle.unit_segments.specs.Command.{BodyFault, fault_from, missing_error, params_fault, body_fault_by, body_fault, is_looked_into, has_needed}
 use Rattle.unit_segments.specs.Grammar.{AreParams, IsSound}
-use Rattle.unit_segments.specs.BadChain.{IsNoObject, IsLookedInto, HasBadMember, LacksParam, IsBodyFault}
+use Rattle.unit_segments.specs.BadChain.{IsLookedInto, IsBodyFault}
 
 abbrev found_is : BodyFault → Option BodyFault
 found_is fault = Some fault

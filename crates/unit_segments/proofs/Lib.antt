@@ -10,3 +10,4 @@ pub mod WrittenChains
 pub mod Sound
 pub mod ReadAgain
 pub mod SpelledChains
+pub mod Writable

@@ -1,5 +1,5 @@
 -- The chains that are written of commands are read again as these.
-use Rattle.std.proofs.Common.{◌≡◌, ℕ, ◌+◌, ◌<◌, ◌≤◌, ◌^◌, Bool, true, false, cond, suc, List, [], ◌∷◌, ◌++◌, map, length, refl, sym, ap, ◌∙◌, subst, arith}
+use Rattle.std.proofs.Common.{◌≡◌, ℕ, ◌+◌, ◌≤◌, ◌^◌, Bool, true, false, cond, suc, List, [], ◌∷◌, ◌++◌, map, length, refl, sym, ap, ◌∙◌, subst, arith}
 use Rattle.std.specs.List.{AllByRecursion}
 use Rattle.std.proofs.lemmas.List.{append_assoc, append-nil, length-map}
 use Rattle.link_ends.specs.Bytes.{AreBytes}
@@ -10,7 +10,7 @@ use Rattle.access_handshake.specs.declared.access.Access.{Access}
 use Rattle.access_handshake.specs.declared.stage.Stage.TheVariants.{Accessed}
 use Rattle.access_handshake.specs.Access.{request, accsec_object, access_chain}
 use Rattle.unit_segments.specs.declared.command.Command.{Command}
-use Rattle.unit_segments.specs.Limit.{most_commands, most_chain_bytes}
+use Rattle.unit_segments.specs.Limit.{most_chain_bytes}
 use Rattle.unit_segments.specs.Command.{code_of, ends_unit}
 use Rattle.unit_segments.specs.Grammar.{IsSound}
 use Rattle.unit_segments.specs.Spelling.{chain_bytes, numbered}

@@ -1,6 +1,6 @@
 -- DSSs are read as the chains that they are, up to the first fault.
-use Rattle.std.proofs.Common.{◌≡◌, ℕ, zero, suc, ◌⊎◌, Bool, true, false, cond, List, [], ◌∷◌, ◌++◌, map, length, take, drop, flat_map, arith}
-use Rattle.std.proofs.Common.{Option, Some, None, Result, Ok, Err, refl, sym, ap, ◌∙◌, subst, inl, inr}
+use Rattle.std.proofs.Common.{◌≡◌, ℕ, zero, suc, ◌⊎◌, Bool, true, false, List, [], ◌∷◌, ◌++◌, map, length, take, drop, flat_map, arith}
+use Rattle.std.proofs.Common.{Option, Some, None, Result, Ok, refl, sym, ap, ◌∙◌, subst, inl, inr}
 use Rattle.std.specs.List.{AllByRecursion}
 use Rattle.std.proofs.lemmas.Bool.{both_ways}
 use Rattle.std.proofs.lemmas.Option.{same_Some}
@@ -10,11 +10,10 @@ use Rattle.dss_frame.specs.declared.dss.Dss.{Dss}
 use Rattle.dss_frame.specs.declared.dss.Placed.{Placed}
 use Rattle.unit_segments.specs.declared.command.Command.{Command}
 use Rattle.unit_segments.specs.declared.fault.ChainFault.{ChainFault}
-use Rattle.unit_segments.specs.Limit.{most_commands}
 use Rattle.unit_segments.specs.Chain.{OpenChain, no_chain, with_dss, awaited_after, chain_after, chain_by, dss_fault, chain_step, Chains, with_chain, chains_by}
 use Rattle.unit_segments.specs.Chain.{chains_from, chains_of}
 use Rattle.unit_segments.specs.Grammar.{none_before, AreLinked, commands_of, IsFront, IsChain, Chained, Begins, AreChains}
-use Rattle.unit_segments.specs.BadChain.{last_of, IsFaultOf, IsBadChain}
+use Rattle.unit_segments.specs.BadChain.{IsFaultOf, IsBadChain}
 use Rattle.unit_segments.proofs.Steps.{opened, GoesOn, goes_on_read, read_goes_on, fault_first, first_read}
 use Rattle.unit_segments.proofs.Fronts.{last_push, commands_push, front_push, front_split}
 

@@ -1,7 +1,6 @@
 -- The objects that are written as commands are sound.
-use Rattle.std.proofs.Common.{◌≡◌, ℕ, zero, suc, ◌+◌, ◌-◌, ◌<◌, ◌≤◌, ◌^◌, Bool, true, false, not, cond, eqb, leb, List, [], ◌∷◌, ◌++◌, map, length, take, drop}
-use Rattle.std.proofs.Common.{Option, Some, None, Result, Ok, Err, refl, sym, ap, ◌∙◌, subst, arith, inl, inr}
-use Rattle.std.specs.List.{flat_map, AllByRecursion}
+use Rattle.std.proofs.Common.{◌≡◌, ℕ, zero, suc, ◌+◌, ◌-◌, ◌<◌, ◌≤◌, Bool, true, false, cond, eqb, leb, List, [], ◌∷◌, ◌++◌, length, take}
+use Rattle.std.proofs.Common.{Result, Ok, refl, sym, ap, ◌∙◌, subst, arith}
 use Rattle.std.specs.Prelude.{replicate, unwrap_or}
 use Rattle.std.proofs.lemmas.Bool.{both_ways, ne_eqb, le-leb, cond-true}
 use Rattle.std.proofs.lemmas.List.{append_assoc, append-nil, length-append, length-map, length-replicate, length-take, take_at}
@@ -9,8 +8,8 @@ use Rattle.byteorder.specs.Endian.{big_bytes}
 use Rattle.byteorder.specs.Numbers.{length-bytes_high_first}
 use Rattle.ddm_objects.specs.declared.fault.ObjFault.{ObjFault}
 use Rattle.ddm_objects.specs.Objects.{Member, Found, Form, Short, ToEnd, Extended4, Extended6, Extended8, IsAllowed, IsObject, StartsWith, HasCanonical}
-use Rattle.ddm_objects.specs.Objects.{length_field, extended_length, object_at, greatest_short, short_object, long_object, canonical_object, outer_of}
-use Rattle.ddm_objects.specs.Members.{Members, AreMembers, members_of, first_with}
+use Rattle.ddm_objects.specs.Objects.{length_field, extended_length, object_at, greatest_short, short_object, long_object, canonical_object}
+use Rattle.ddm_objects.specs.Members.{Members, AreMembers, first_with}
 use Rattle.ddm_objects.proofs.Reading.Read.{found_size}
 use Rattle.ddm_objects.proofs.Reading.Spelled.{begins_again, outer_again, members_again, canonical_outer, canonical_begins}
 use Rattle.ddm_codepoints.specs.declared.code_class.CodeClass.{CodeClass}
@@ -21,7 +20,6 @@ use Rattle.ddm_codepoints.specs.CodePoint.{accsec, secchk, accrdb, secmec, rdbna
 use Rattle.ddm_codepoints.specs.Value.{release, return_sets}
 use Rattle.access_handshake.specs.Access.{accsec_object}
 use Rattle.unit_segments.specs.Limit.{most_chain_bytes}
-use Rattle.unit_segments.specs.declared.command.Command.{Command}
 use Rattle.unit_segments.specs.Command.{ends_unit, is_looked_into, code_by, code_of, data_by, data_of, has_two_bytes, has_needed}
 use Rattle.unit_segments.specs.Grammar.{AreParams, IsSound}
 use Rattle.unit_segments.specs.Release.{kept_by, kept_within, kept_members, is_asking, asking, asked_body}

@@ -1,17 +1,15 @@
 -- One DSS more behind those that begin a chain: it has a fault, or it goes on the chain.
-use Rattle.std.proofs.Common.{◌≡◌, ℕ, ◌+◌, ◌<◌, ◌≤◌, ◌⊎◌, Bool, true, false, cond, eqb, leb, List, [], ◌∷◌, ◌++◌, length}
-use Rattle.std.proofs.Common.{Option, Some, None, refl, sym, ap, ◌∙◌, subst, arith, inl, inr}
+use Rattle.std.proofs.Common.{◌≡◌, ℕ, ◌<◌, ◌⊎◌, Bool, true, false, cond, eqb, leb, List, length}
+use Rattle.std.proofs.Common.{Option, Some, None, refl, sym, ap, ◌∙◌, inl, inr}
 use Rattle.std.specs.Prelude.{◌&&◌}
 use Rattle.std.specs.Option.{option_or}
-use Rattle.std.proofs.lemmas.Bool.{both_ways, eqb-true, eqb-false, eq-eqb, ne_eqb, leb-true, leb-false, le-leb, lt-leb, cond-true, cond-false, cases_Bool}
+use Rattle.std.proofs.lemmas.Bool.{both_ways, eqb-true, eqb-false, eq-eqb, ne_eqb, leb-true, leb-false, le-leb, lt-leb, cond-true}
 use Rattle.std.proofs.lemmas.Option.{same_Some}
 use Rattle.link_ends.specs.Bytes.{AreBytes}
 use Rattle.dss_frame.specs.declared.dss.Kind.{Kind}
 use Rattle.dss_frame.specs.declared.dss.Kind.TheVariants.{Request, Reply, Object}
-use Rattle.dss_frame.specs.declared.dss.Dss.{Dss}
 use Rattle.dss_frame.specs.declared.dss.Placed.{Placed}
 use Rattle.unit_segments.specs.declared.chain_reader.Awaited.TheVariants as awaits
-use Rattle.unit_segments.specs.declared.command.Command.{Command}
 use Rattle.unit_segments.specs.declared.fault.ChainFault.{ChainFault}
 use Rattle.unit_segments.specs.declared.fault.ChainFault.TheVariants.{TooMany}
 use Rattle.unit_segments.specs.Limit.{most_commands}
@@ -19,7 +17,7 @@ use Rattle.unit_segments.specs.Command.{BodyFault, body_fault}
 use Rattle.unit_segments.specs.Chain.{OpenChain, is_request, is_object, wrong_kind, wrong_number, order_fault, count_fault, at_body, command_fault, dss_fault}
 use Rattle.unit_segments.specs.Chain.{awaited_after}
 use Rattle.unit_segments.specs.Grammar.{kind_after, IsNext, none_before, commands_of, HasSoundBody}
-use Rattle.unit_segments.specs.BadChain.{last_of, IsOfOtherKind, HasOtherNumber, BeginsCommand, IsOneTooMany, HasBadBody, IsFaultOf}
+use Rattle.unit_segments.specs.BadChain.{last_of, IsFaultOf}
 use Rattle.unit_segments.proofs.Bodies.{sound_read, read_sound, read_bad, bad_read}
 
 -- the chain that has begun with these DSSs

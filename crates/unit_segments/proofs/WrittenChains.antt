@@ -1,11 +1,10 @@
 -- A chain that is written is read again as it was.
-use Rattle.std.proofs.Common.{◌≡◌, ℕ, ◌+◌, ◌<◌, ◌≤◌, ◌^◌, Bool, true, false, not, cond, List, [], ◌∷◌, ◌++◌, map, length, drop, flat_map, suc}
-use Rattle.std.proofs.Common.{None, Some, refl, sym, ap, ◌∙◌, subst, arith}
+use Rattle.std.proofs.Common.{◌≡◌, ℕ, ◌+◌, ◌<◌, ◌≤◌, ◌^◌, Bool, true, false, not, List, [], ◌∷◌, ◌++◌, map, length, drop, flat_map, suc}
+use Rattle.std.proofs.Common.{None, refl, sym, ap, ◌∙◌, subst, arith}
 use Rattle.std.specs.Prelude.{◌&&◌, ◌||◌, IsTrue}
 use Rattle.std.specs.List.{AllByRecursion}
 use Rattle.std.proofs.lemmas.Bool.{both_ways}
-use Rattle.std.proofs.lemmas.List.{append_assoc, append-nil, length-append, take_at, drop_at}
-use Rattle.std.proofs.lemmas.List.Concat.{flat_map-append}
+use Rattle.std.proofs.lemmas.List.{append_assoc, append-nil, length-append, drop_at}
 use Rattle.link_ends.specs.Bytes.{AreBytes}
 use Rattle.dss_frame.specs.declared.dss.Kind.{Kind}
 use Rattle.dss_frame.specs.declared.dss.Kind.TheVariants.{Request, Object}
@@ -14,14 +13,13 @@ use Rattle.dss_frame.specs.declared.dss.Dss.{Dss}
 use Rattle.dss_frame.specs.declared.dss.Placed.{Placed}
 use Rattle.dss_frame.specs.Dss.{canonical}
 use Rattle.dss_frame.specs.Spelling.{Spelled, IsSpelled, IsDssOf}
-use Rattle.dss_frame.specs.Told.{read, dsss_of, told, AreAt}
+use Rattle.dss_frame.specs.Told.{read, told, AreAt}
 use Rattle.dss_frame.proofs.Spellings.OneSpelling.{canonical_spells, one_spelling}
 use Rattle.dss_frame.proofs.Streams.Places.{stands_at}
 use Rattle.dss_frame.proofs.Streams.Written.{written_read}
 use Rattle.unit_segments.specs.declared.command.Command.{Command}
-use Rattle.unit_segments.specs.Limit.{most_commands}
 use Rattle.unit_segments.specs.Chain.{no_chain, chains_of, chains_from}
-use Rattle.unit_segments.specs.Grammar.{kind_after, IsNext, none_before, AreLinked, goes_on_after, command_with, Grouped, grouped_with, grouped, commands_of}
+use Rattle.unit_segments.specs.Grammar.{none_before, AreLinked, goes_on_after, command_with, Grouped, grouped_with, grouped, commands_of}
 use Rattle.unit_segments.specs.Grammar.{HasSoundBody, IsChain, Chained, Begins}
 use Rattle.unit_segments.specs.Spelling.{is_last, command_dss, object_dsss, command_dsss, chain_dsss, chain_bytes}
 use Rattle.unit_segments.specs.Written.{size_of, placed_from, commands_from, IsWritable, AreWritable, IsReadAs}

@@ -1,6 +1,6 @@
 //! Laws of chains and their segments. Each function is a law: it does nothing, and what it ensures holds of every value.
 
-ghost use Rattle.std.specs.Prelude.{◌≡◌, ℕ, ◌≤◌, ◌∷◌, ◌++◌, List, map, length, None, Some};
+ghost use Rattle.std.specs.Prelude.{◌≡◌, ℕ, ◌^◌, ◌<◌, ◌≤◌, ◌∷◌, ◌++◌, List, map, length, None, Some};
 ghost use Rattle.std.specs.List.{AllByRecursion};
 ghost use Rattle.link_ends.specs.Bytes.{AreBytes};
 ghost use Rattle.unit_segments.specs.declared.command.Command.{Command};
@@ -102,6 +102,14 @@ pub fn bytes_are_one_list()
 pub fn written_chain_is_read()
     ensures { (limit : ℕ) (commands : List Command) → AreWritable commands → AreBytes (chain_bytes commands)
         → length (chain_bytes commands) ≤ limit → IsReadAs limit (commands_from 0 commands) (chain_bytes commands) }
+{}
+
+/// The commands of a chain that was read can be written again, and so can those of each of its segments.
+pub fn chains_can_be_written()
+    ensures chain { (commands : List Command) (placed : List Placed) → AllByRecursion (λ p. p.dss.corr < 2 ^ 16) placed
+        → IsChain commands placed → AreWritable commands }
+    ensures segments { (commands : List Command) (segments : List (List Command)) → AreWritable commands
+        → AreSegments commands segments → AllByRecursion AreWritable segments }
 {}
 
 /// What a member is sent of a segment, with the asking for release, is read there as these commands.
