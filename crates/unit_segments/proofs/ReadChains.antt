@@ -119,8 +119,15 @@ chain_in_front commands front others read is reads =
       ends = elim reads.ends [
         | inl e ↦ inl (record { front = e.front; told = e.told; begun = e.begun })
         | inr s ↦ inr (record {
-            begun = s.begun; bad = s.bad; more = s.more; fault = s.fault; all = s.all; front = s.front; first = s.first; told = s.told;
-          })
+          begun = s.begun;
+          bad = s.bad;
+          more = s.more;
+          fault = s.fault;
+          all = s.all;
+          front = s.front;
+          first = s.first;
+          told = s.told;
+        })
       ];
     }
 
@@ -255,9 +262,9 @@ pub bad_chain_read : (placed : List Placed) (fault : ChainFault) → AllByRecurs
     (chains_of placed).fault ≡ Some fault
 bad_chain_read placed fault fits bad =
     let rest : List Placed = bad.begun ++ bad.bad ∷ bad.more in
-    let body : HasBytes bad.bad =
-    byte_body (flat_map (λ (c : Chained). c.placed) bad.chains ++ bad.begun) bad.bad bad.more
-    (subst (AllByRecursion HasBytes) (bad.begins.all ∙ sym (append_assoc (flat_map (λ (c : Chained). c.placed) bad.chains) bad.begun (bad.bad ∷ bad.more))) fits) in
+    let chains : List Placed = flat_map (λ (c : Chained). c.placed) bad.chains in
+    let same = bad.begins.all ∙ sym (append_assoc chains bad.begun (bad.bad ∷ bad.more)) in
+    let body : HasBytes bad.bad = byte_body (chains ++ bad.begun) bad.bad bad.more (subst (AllByRecursion HasBytes) same fits) in
     let whole : IsFront true ([] ++ bad.begun) = bad.front in
     let front = read_front true [] bad.begun (bad.bad ∷ bad.more) refl whole in
     ap (λ (c : Chains). c.fault) (chains_read bad.chains rest placed bad.begins)
@@ -346,8 +353,9 @@ no_rest : (rest : List Placed) (chain : Chained) (chains : List Chained) (other 
     rest ≡ all_placed (chain ∷ chains) ++ other → ⊥
 no_rest rest chain chains other no_more is same =
     let joined = same ∙ append_assoc chain.placed (all_placed chains) other in
-    no_more chain.commands (length chain.placed)
-    (subst (IsChain chain.commands) (sym (ap (take (length chain.placed)) joined ∙ take_at chain.placed (all_placed chains ++ other) (length chain.placed) refl)) is)
+    let size : ℕ = length chain.placed in
+    let first = ap (take size) joined ∙ take_at chain.placed (all_placed chains ++ other) size refl in
+    no_more chain.commands size (subst (IsChain chain.commands) (sym first) is)
 
 one_by : (xs ys : List Chained) (a b : List Placed) → AreWhole xs → AreWhole ys → NoMore a → NoMore b → all_placed xs ++ a ≡ all_placed ys ++ b →
     (all_commands xs ≡ all_commands ys) × (a ≡ b)

@@ -83,7 +83,7 @@ passed_whole command rest [] is whole = record {
   each = (inl (goes_on command is), tt);
   maximal = tt;
 }
-passed_whole command rest ([] ∷ segments) is whole = absurd (elim whole.each.0 [ | inl run ↦ run | inr alone ↦ alone ])
+passed_whole command rest ([] ∷ segments) is whole = absurd (elim whole.each.0 [ inl run ↦ run | inr alone ↦ alone ])
 passed_whole command rest ((next ∷ segment) ∷ segments) is whole =
     passed_by command next segment segments rest (goes_on_a_run next) refl is whole
 
@@ -122,7 +122,7 @@ stands_apart command next segment others false is isnt = rw is refl
 alone_before : (command : Command) (segments : List (List Command)) → passes command ≡ true → AllByRecursion Fits segments → Follows (command ∷ []) segments →
     passed_before command segments ≡ (command ∷ []) ∷ segments
 alone_before command [] is each follows = refl
-alone_before command ([] ∷ others) is each follows = absurd (elim each.0 [ | inl run ↦ run | inr alone ↦ alone ])
+alone_before command ([] ∷ others) is each follows = absurd (elim each.0 [ inl run ↦ run | inr alone ↦ alone ])
 alone_before command ((next ∷ segment) ∷ others) is each follows =
     stands_apart command next segment others (goes_on_a_run next) refl (follows is)
 
@@ -159,7 +159,8 @@ cut_alone [] rest segments alone each follows same = absurd alone
 cut_alone (command ∷ []) rest segments alone each follows same = one_by command rest segments (passes command) refl each follows same
 cut_alone (command ∷ next ∷ others) rest segments alone each follows same = absurd alone
 
-cut_as : (segments : List (List Command)) → AllByRecursion Fits segments → AreMaximal segments → segments_of (flat_map (λ (s : List Command). s) segments) ≡ segments
+cut_as : (segments : List (List Command)) → AllByRecursion Fits segments → AreMaximal segments →
+    segments_of (flat_map (λ (s : List Command). s) segments) ≡ segments
 cut_as [] each maximal = segments_none
 cut_as (segment ∷ segments) each maximal =
     let rest : List Command = flat_map (λ (s : List Command). s) segments in

@@ -80,7 +80,8 @@ request_fails Request told isnt = absurd (isnt refl)
 request_fails Reply told isnt = refl
 request_fails Object told isnt = refl
 
-object_fails : (kind : Kind) (number : Option ChainFault) (told : ChainFault) → (kind ≡ object_is → ⊥) → cond (is_object kind) number (Some told) ≡ fault_is told
+object_fails : (kind : Kind) (number : Option ChainFault) (told : ChainFault) → (kind ≡ object_is → ⊥) →
+    cond (is_object kind) number (Some told) ≡ fault_is told
 object_fails Request number told isnt = refl
 object_fails Reply number told isnt = refl
 object_fails Object number told isnt = absurd (isnt refl)
@@ -145,7 +146,8 @@ body_none true placed None e is = refl
 body_none true placed (Some fault) e is = absurd cc
 body_none false placed found e is = absurd cc
 
-body_read : (request : Bool) (placed : Placed) (found : Option BodyFault) → (request ≡ true → found ≡ None) → cond request (at_body placed found) None ≡ no_fault
+body_read : (request : Bool) (placed : Placed) (found : Option BodyFault) → (request ≡ true → found ≡ None) →
+    cond request (at_body placed found) None ≡ no_fault
 body_read true placed found none = rw (none refl) refl
 body_read false placed found none = refl
 
@@ -189,7 +191,8 @@ read_goes_on begun placed fits e =
 
 -- it isn't of the kind, or has another number
 order_bad : (begun : List Placed) (same : Bool) (corr : ℕ) (placed : Placed) (fault : ChainFault) → (last_of none_before begun).same ≡ same →
-    (last_of none_before begun).corr ≡ corr → order_fault (cond same (awaits.Object corr) awaits.Command) corr placed ≡ Some fault → IsFaultOf begun placed fault
+    (last_of none_before begun).corr ≡ corr → order_fault (cond same (awaits.Object corr) awaits.Command) corr placed ≡ Some fault →
+    IsFaultOf begun placed fault
 order_bad begun true corr placed fault same_is corr_is e =
     let kind_is : kind_after (last_of none_before begun) ≡ Object = rw same_is refl in
     elim (not_object placed.dss.kind (cond (eqb placed.dss.corr corr) None (Some (wrong_number placed))) (wrong_kind corr placed) fault e) [

@@ -119,7 +119,8 @@ objects_sound command followed (body ∷ bodies) others place behind = (
   objects_sound command followed bodies others (place + length (canonical (command_dss Object command followed (is_last bodies) body))) behind,
 )
 
-chain_sound : (commands : List Command) → AllByRecursion IsWritable commands → (place : ℕ) → AllByRecursion HasSoundBody (placed_from place (chain_dsss commands))
+chain_sound : (commands : List Command) → AllByRecursion IsWritable commands → (place : ℕ) →
+    AllByRecursion HasSoundBody (placed_from place (chain_dsss commands))
 chain_sound [] each place = tt
 chain_sound (command ∷ commands) each place = (
   λ _. each.0.sound,
@@ -177,7 +178,7 @@ command_again command followed place next fits =
       code = n;
       corr = command.corr;
       go_on = goes_on_after (command_dss Request command followed (is_last command.objects) command.body)
-      (placed_from next (object_dsss command followed command.objects));
+          (placed_from next (object_dsss command followed command.objects));
       at = told place;
       body = command.body;
       objects = map (λ (p : Placed). p.dss.body) (placed_from next (object_dsss command followed command.objects));

@@ -59,9 +59,9 @@ pub fn read_are_chains()
 pub fn chains_are_read()
     ensures behind { (chains : List Chained) (rest placed : List Placed) → Begins chains rest placed
         → chains_of placed ≡ record {
-            chains = map (λ chain. chain.commands) chains ++ (chains_of rest).chains;
-            begun = (chains_of rest).begun;
-            fault = (chains_of rest).fault;
+          chains = map (λ chain. chain.commands) chains ++ (chains_of rest).chains;
+          begun = (chains_of rest).begun;
+          fault = (chains_of rest).fault;
         } }
     ensures all { (commands : List (List Command)) (rest placed : List Placed) → AllByRecursion (λ p. AreBytes p.dss.body) placed
         → AreChains commands rest placed → (chains_of placed).chains ≡ commands }

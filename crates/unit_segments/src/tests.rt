@@ -218,10 +218,7 @@ fn refuses(rt: HostRuntime) -> Result<(), Fail> {
     ];
     for (front, before) in FRONTS {
         for (bytes, place, err, corr) in rows {
-            let (_, fault) = read(
-                rt.alloc(),
-                behind(rt.alloc(), front, bytes)?.as_slice(),
-            )?;
+            let (_, fault) = read(rt.alloc(), behind(rt.alloc(), front, bytes)?.as_slice())?;
             let at = place + front.len() as u64;
             let corr = corr.unwrap_or(before);
             assert_eq!(rt; fault, Some(ChainFault::Syntax { at, err, corr }));
