@@ -1,3 +1,13 @@
 pub mod Cutting
 pub mod Reading
 pub mod Written
+pub mod Bodies
+pub mod Segmented
+pub mod Steps
+pub mod Fronts
+pub mod ReadChains
+pub mod WrittenChains
+pub mod Sound
+pub mod ReadAgain
+pub mod SpelledChains
+pub mod Writable
