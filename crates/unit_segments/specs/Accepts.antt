@@ -2,7 +2,7 @@
 -- ACCRDBRM, SQLCARD. That these replies count, and where several came the first, is this project's own. The kind of a reply's
 -- DSS, reply or object, isn't looked at.
 use Rattle.std.specs.Prelude.{ℕ, Bool, true, false, not, ◌==◌, ◌&&◌, ◌||◌, if◌then◌else◌, List, [], ◌∷◌, find, bytes_eq}
-use Rattle.std.specs.Prelude.{Option, Some, None, is_some}
+use Rattle.std.specs.Prelude.{Option, Some, None, is_some, option_map}
 use Rattle.std.specs.List.{list_any, list_all}
 use Rattle.std.specs.Int.{is_negative}
 use Rattle.byteorder.specs.Endian.{big_bytes}
@@ -14,7 +14,6 @@ use Rattle.ddm_codepoints.specs.Value.{admitted}
 use Rattle.reply_texts.specs.declared.sqlcard.Card.{Card}
 use Rattle.reply_texts.specs.declared.sqlcard.Card.TheVariants.{Null, Full}
 use Rattle.reply_texts.specs.Sqlcard.{card_of}
-use Rattle.access_handshake.specs.declared.manager.ManagerLevel.{ManagerLevel}
 use Rattle.access_handshake.specs.Managers.{managers_of}
 use Rattle.access_handshake.specs.Parameter.{parameter}
 use Rattle.access_handshake.specs.Accepted.{accepted_of}
@@ -24,13 +23,13 @@ use Rattle.unit_segments.specs.Strip.{is_object_of}
 
 -- ---- the replies to EXCSAT
 
-abbrev pub is_level_seven : Option ManagerLevel → Bool
-is_level_seven None = false
-is_level_seven (Some manager) = manager.level == 7
+abbrev pub is_seven : Option ℕ → Bool
+is_seven None = false
+is_seven (Some level) = level == 7
 
 abbrev pub has_level : Option (List ℕ) → Bool
 has_level None = false
-has_level (Some levels) = is_level_seven (find (λ manager. manager.code == sqlam) (managers_of levels))
+has_level (Some levels) = is_seven (option_map (λ manager. manager.level) (find (λ manager. manager.code == sqlam) (managers_of levels)))
 
 -- EXCSATRD alone, with SQLAM at level 7
 abbrev pub gives_level : List Dss → Bool
