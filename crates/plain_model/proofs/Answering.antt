@@ -55,11 +55,11 @@ answer_keeps {U} name q l f sending = go (has_ended (segment_of q) q.part) refl
       books = books_with (suc q.core.unit) j.unit q.core.owed j.owed (is_bereft q.core.end) (is_bereft j.end) q.in_flight (tell q.core.unit outcome l)
           (unit_if true e) a.owed (bereft ∙ sym live)
           (books_ended q.core.unit q.core.owed (is_bereft q.core.end) q.in_flight l outcome f.books live sending.owed
-            (end_fits (is_committed (segment_of q) q.part) (l.commits q.core.unit) f.working));
+          (end_fits (is_committed (segment_of q) q.part) (l.commits q.core.unit) f.working));
       bereft_sent = λ t. a.sent;
       works = works_start j (λ ne. a.sent) (a.segments f.works.cut) (a.again f.works.again f.works.cut);
       working = ap l.commits (unit_if true e) ∙ f.books.above (suc q.core.unit) (le_refl (suc q.core.unit));
     })
     go false e = subst (λ b. FactOf j 0 [] q.in_flight (note (if b then telling q.core.unit outcome else None) l)) (sym e)
         (same_unit q.core j q.ran q.part q.in_flight l f (unit_if false e) a.owed (bereft ∙ sym live) (λ ne. a.sent) (λ t. a.sent) (a.segments f.works.cut) (a.again f.works.again f.works.cut)
-          (ap (λ b. if b then 1 else 0) (not_ended (end_message (segment_of q) q.part) e)))
+        (ap (λ b. if b then 1 else 0) (not_ended (end_message (segment_of q) q.part) e)))

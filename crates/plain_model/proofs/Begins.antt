@@ -26,11 +26,11 @@ begin_keeps name (Chain commands) k ran part flight l f live idle is =
     let same = settled_finished name k2 in
     let j : Core = (finished (settled name k2)).core in
     same_unit k j ran part flight l f same.unit same.owed (ap is_bereft same.end)
-        (λ ne. same.sent ∙ f.works.owed_sent (λ e. ne (same.owed ∙ e)))
-        (λ e. same.sent ∙ f.bereft_sent (sym (ap is_bereft same.end) ∙ e))
-        (same.segments (segments_cut commands is.1))
-        (subst (AllByRecursion IsCommand) (sym same.again) f.works.again)
-        (idle_won k ran part flight l f idle)
+    (λ ne. same.sent ∙ f.works.owed_sent (λ e. ne (same.owed ∙ e)))
+    (λ e. same.sent ∙ f.bereft_sent (sym (ap is_bereft same.end) ∙ e))
+    (same.segments (segments_cut commands is.1))
+    (subst (AllByRecursion IsCommand) (sym same.again) f.works.again)
+    (idle_won k ran part flight l f idle)
 begin_keeps name (Fault place error number) k ran part flight l f live idle is =
     same_unit k (begun name (Fault place error number) k).core ran part flight l f refl refl (sym (ap is_bereft live)) f.works.owed_sent (λ e. absurd (true≢false (sym e))) f.works.cut f.works.again (idle_won k ran part flight l f idle)
 begin_keeps name (TooLong number) k ran part flight l f live idle is =

@@ -3,7 +3,7 @@ use Rattle.std.proofs.Common.{◌≡◌, ℕ, suc, Bool, true, false, ◌&&◌, 
 use Rattle.std.proofs.lemmas.Bool.{cond_both, cond-true, cond-false}
 use Rattle.std.specs.List.{AllByRecursion}
 use Rattle.unit_segments.specs.declared.command.Command.{Command}
-use Rattle.unit_segments.specs.declared.strip.Stripped.{Stripped}
+use Rattle.unit_segments.specs.declared.stripped.Stripped.{Stripped}
 use Rattle.unit_segments.specs.declared.registers.RegisterFault.{RegisterFault}
 use Rattle.plain_model.specs.Group.{IsCommand}
 use Rattle.plain_model.specs.Local.{Locally, is_local, answered_locally}

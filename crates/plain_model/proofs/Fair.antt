@@ -71,10 +71,10 @@ events_keep {U = U} {m = m} {v = v} laws name (e ∷ es) p ls sh holds may i n =
       fact = event_keeps laws name p.shared q l e.what sh h.values h.fact may.0;
     } in
     events_keep laws name es (after_event name m p e) (put ls e.session l2) (data_kept laws p.shared q l e.what sh h.values h.fact)
-        (λ j. put_holds p.session e.session q2 (λ k z. Holds v z (put ls e.session l2 k))
-          (subst (λ a. Holds v q2 a) (sym (put_same ls e.session l2)) new)
-          (λ k ne. subst (λ a. Holds v (p.session k) a) (sym (put_other ls e.session l2 k ne)) (holds k)) j)
-        may.1 i n
+    (λ j. put_holds p.session e.session q2 (λ k z. Holds v z (put ls e.session l2 k))
+    (subst (λ a. Holds v q2 a) (sym (put_same ls e.session l2)) new)
+    (λ k ne. subst (λ a. Holds v (p.session k) a) (sym (put_other ls e.session l2 k ne)) (holds k)) j)
+    may.1 i n
 
 -- ---- the accounts say what was committed and told
 
@@ -112,21 +112,21 @@ own_commits : (j n : ℕ) (o : Option ℕ) (names : List UnitName) (l : Account)
 own_commits j n None names l = refl
 own_commits j n (Some k) names l = by_equal k n
     (λ e. let first : commits_of j n (unit_name j k ∷ names) ≡ 1 + commits_of j n names =
-            one_name j n j k names ∙ ap (λ b. (if b then 1 else 0) + commits_of j n names) (ap (λ b. b && (k == n)) (same_number j j refl) ∙ same_number k n e) in
-        let now : put l.commits k (suc (l.commits k)) n ≡ suc (l.commits n) =
-            subst (λ z. put l.commits k (suc (l.commits k)) z ≡ suc (l.commits z)) e (put_same l.commits k (suc (l.commits k))) in
-        omega arith)
+    one_name j n j k names ∙ ap (λ b. (if b then 1 else 0) + commits_of j n names) (ap (λ b. b && (k == n)) (same_number j j refl) ∙ same_number k n e) in
+    let now : put l.commits k (suc (l.commits k)) n ≡ suc (l.commits n) =
+    subst (λ z. put l.commits k (suc (l.commits k)) z ≡ suc (l.commits z)) e (put_same l.commits k (suc (l.commits k))) in
+    omega arith)
     (λ ne. let first : commits_of j n (unit_name j k ∷ names) ≡ 0 + commits_of j n names =
-            one_name j n j k names ∙ ap (λ b. (if b then 1 else 0) + commits_of j n names) (and_false (j == j) (k == n) (other_number k n ne)) in
-        let now : put l.commits k (suc (l.commits k)) n ≡ l.commits n = put_other l.commits k (suc (l.commits k)) n (λ e. ne (sym e)) in
-        omega arith)
+    one_name j n j k names ∙ ap (λ b. (if b then 1 else 0) + commits_of j n names) (and_false (j == j) (k == n) (other_number k n ne)) in
+    let now : put l.commits k (suc (l.commits k)) n ≡ l.commits n = put_other l.commits k (suc (l.commits k)) n (λ e. ne (sym e)) in
+    omega arith)
 
 -- another session's
 other_commits : (i j n : ℕ) (o : Option ℕ) (names : List UnitName) → j ≢ i → commits_of i n (unit_before j o names) ≡ commits_of i n names
 other_commits i j n None names ne = refl
 other_commits i j n (Some k) names ne =
     let first : commits_of i n (unit_name j k ∷ names) ≡ 0 + commits_of i n names =
-        one_name i n j k names ∙ ap (λ b. (if b then 1 else 0) + commits_of i n names) (ap (λ b. b && (k == n)) (other_number j i ne)) in
+    one_name i n j k names ∙ ap (λ b. (if b then 1 else 0) + commits_of i n names) (ap (λ b. b && (k == n)) (other_number j i ne)) in
     omega arith
 
 pub commits_are : {S U : Type 0} (name : List ℕ) (m : Meaning S U) (es : List Event) (p : State S U) (ls : ℕ → Account) (i n : ℕ)
@@ -140,7 +140,7 @@ commits_are name m (e ∷ es) p ls i n =
     let l2 : Account = note t (count o (ls j)) in
     by_equal i j
     (λ ij. subst (λ k. commits_of k n (unit_before j o names) + (ls k).commits n ≡ commits_of k n names + (put ls j l2 k).commits n) (sym ij)
-      (own_commits j n o names (ls j) ∙ ap (λ c. commits_of j n names + c) (sym (ap (λ (a : Account). a.commits n) (put_same ls j l2) ∙ noted_commits t (count o (ls j)) n))))
+    (own_commits j n o names (ls j) ∙ ap (λ c. commits_of j n names + c) (sym (ap (λ (a : Account). a.commits n) (put_same ls j l2) ∙ noted_commits t (count o (ls j)) n))))
     (λ ne. ap (λ c. c + (ls i).commits n) (other_commits i j n o names (λ ji. ne (sym ji))) ∙ ap (λ (a : Account). commits_of i n names + a.commits n) (sym (put_other ls j l2 i ne)))
     ∙ commits_are name m es (after_event name m p e) (put ls j l2) i n
 
@@ -160,10 +160,10 @@ own_told : (j n : ℕ) (t : Option Telling) (l : Account) → first_of (l.told n
 own_told j n None l = first_none (l.told n)
 own_told j n (Some t) l = by_equal t.unit n
     (λ e. ap (λ b. first_of (l.told n) (if b then Some t.outcome else None)) (ap (λ b. b && (t.unit == n)) (same_number j j refl) ∙ same_number t.unit n e)
-      ∙ sym (subst (λ z. put l.told t.unit (first_of (l.told t.unit) (Some t.outcome)) z ≡ first_of (l.told z) (Some t.outcome)) e (put_same l.told t.unit (first_of (l.told t.unit) (Some t.outcome)))))
+    ∙ sym (subst (λ z. put l.told t.unit (first_of (l.told t.unit) (Some t.outcome)) z ≡ first_of (l.told z) (Some t.outcome)) e (put_same l.told t.unit (first_of (l.told t.unit) (Some t.outcome)))))
     (λ ne. ap (λ b. first_of (l.told n) (if b then Some t.outcome else None)) (and_false (j == j) (t.unit == n) (other_number t.unit n ne))
-      ∙ first_none (l.told n)
-      ∙ sym (put_other l.told t.unit (first_of (l.told t.unit) (Some t.outcome)) n (λ e. ne (sym e))))
+    ∙ first_none (l.told n)
+    ∙ sym (put_other l.told t.unit (first_of (l.told t.unit) (Some t.outcome)) n (λ e. ne (sym e))))
 
 other_told : (i j n : ℕ) (t : Option Telling) → j ≢ i → is_of i n j t ≡ None
 other_told i j n None ne = refl
@@ -180,9 +180,9 @@ told_are name m (e ∷ es) p ls i n =
     let l2 : Account = note t (count o (ls j)) in
     first_both ((ls i).told n) (is_of i n j t) later
     ∙ ap (λ a. first_of a later) (by_equal i j
-      (λ ij. subst (λ k. first_of ((ls k).told n) (is_of k n j t) ≡ (put ls j l2 k).told n) (sym ij)
-        (ap (λ a. first_of a (is_of j n j t)) (sym (counted_told o (ls j) n)) ∙ own_told j n t (count o (ls j)) ∙ sym (ap (λ (a : Account). a.told n) (put_same ls j l2))))
-      (λ ne. ap (first_of ((ls i).told n)) (other_told i j n t (λ ji. ne (sym ji))) ∙ first_none ((ls i).told n) ∙ ap (λ (a : Account). a.told n) (sym (put_other ls j l2 i ne))))
+    (λ ij. subst (λ k. first_of ((ls k).told n) (is_of k n j t) ≡ (put ls j l2 k).told n) (sym ij)
+    (ap (λ a. first_of a (is_of j n j t)) (sym (counted_told o (ls j) n)) ∙ own_told j n t (count o (ls j)) ∙ sym (ap (λ (a : Account). a.told n) (put_same ls j l2))))
+    (λ ne. ap (first_of ((ls i).told n)) (other_told i j n t (λ ji. ne (sym ji))) ∙ first_none ((ls i).told n) ∙ ap (λ (a : Account). a.told n) (sym (put_other ls j l2 i ne))))
     ∙ told_are name m es (after_event name m p e) (put ls j l2) i n
 
 -- ---- from the beginning
@@ -213,7 +213,7 @@ each_unit_is_fair {m = m} laws name s sh es may i n =
     let p = start m s in
     let ls = λ (i : ℕ). new_account in
     subst (λ c. IsFair c (told name m p es i n)) (sym (omega_zero (commits_of i n (committed name m p es)) ∙ commits_are name m es p ls i n))
-        (subst (λ t. IsFair ((accounts name m p ls es i).commits n) t) (sym (told_are name m es p ls i n)) (events_keep laws name es p ls sh (λ j. start_holds laws) may i n))
+    (subst (λ t. IsFair ((accounts name m p ls es i).commits n) t) (sym (told_are name m es p ls i n)) (events_keep laws name es p ls sh (λ j. start_holds laws) may i n))
   where
     omega_zero : (c : ℕ) → c ≡ c + 0
     omega_zero c = omega arith

@@ -12,3 +12,4 @@ pub mod RunsLate
 pub mod Ends
 pub mod Keeps
 pub mod Fair
+pub mod Staying

@@ -52,8 +52,8 @@ lost_again : {U : Type 0} (q : Session U) (l : Account) → Fact q l → q.core.
 lost_again {U} q l f ne =
     let sent = f.works.owed_sent ne in
     subst (λ flight. FactOf (calm q.core) 0 [] flight l)
-        (sym (cond-false (commit_sent q.core) (put q.in_flight q.core.unit (record { held = q.held; commands = to_run q })) q.in_flight (ap (λ b. b && has_commit (first q.core.segments)) sent)))
-        (calmed q l f (still_won q.core q.ran q.part q.in_flight l f sent))
+    (sym (cond-false (commit_sent q.core) (put q.in_flight q.core.unit (record { held = q.held; commands = to_run q })) q.in_flight (ap (λ b. b && has_commit (first q.core.segments)) sent)))
+    (calmed q l f (still_won q.core q.ran q.part q.in_flight l f sent))
 
 -- a commit was sent
 lost_unknown : {U : Type 0} (q : Session U) (l : Account) → Fact q l → commit_sent q.core ≡ true → FactOf (owes Unknown q.core) 0 [] (put q.in_flight q.core.unit (record { held = q.held; commands = to_run q })) l
@@ -61,9 +61,13 @@ lost_unknown {U} q l f e = record {
   books = books_owed q.core.unit q.core.owed Unknown (is_bereft q.core.end) q.in_flight (put q.in_flight q.core.unit here) l f.books
       (λ isnt. live (is_bereft q.core.end) refl) (λ r. absurd (unknown_rerouted r))
       (λ k h. by_equal k q.core.unit
-        (λ ek. inr (ek, f.working ∙ left_won (segment_of q) q.ran q.part seg f.works.up_to
-          (sym (ap (λ (v : InFlight U). has_commit v.commands) (put_same q.in_flight q.core.unit here)) ∙ subst (λ n. has_commit (put q.in_flight q.core.unit here n).commands ≡ true) ek h), unknown_rerouted))
-        (λ ne. inl (subst (λ (v : InFlight U). has_commit v.commands ≡ true) (put_other q.in_flight q.core.unit here k ne) h)))
+      (λ ek. inr (
+        ek,
+        f.working ∙ left_won (segment_of q) q.ran q.part seg f.works.up_to
+            (sym (ap (λ (v : InFlight U). has_commit v.commands) (put_same q.in_flight q.core.unit here)) ∙ subst (λ n. has_commit (put q.in_flight q.core.unit here n).commands ≡ true) ek h),
+        unknown_rerouted,
+      ))
+      (λ ne. inl (subst (λ (v : InFlight U). has_commit v.commands ≡ true) (put_other q.in_flight q.core.unit here k ne) h)))
       (put_holds q.in_flight q.core.unit here (λ n v. IsSegment v.commands) (left_segment (segment_of q) q.ran q.part seg) (λ k ne. f.books.shape k));
   bereft_sent = λ t. refl;
   works = works_start (owes Unknown q.core) (λ ne. refl) f.works.cut tt;

@@ -83,11 +83,12 @@ nothing_said ran g part all lt = ap committed_in (none_beyond ran (end_number g)
 pub end_said : (ran : ℕ) (g : List Command) (c : Command) (cs : List Command) (part r : List Dss) → IsCut g → drop ran (numbered 1 g) ≡ c ∷ cs → is_end c ≡ true
     → AreUpTo ran part → HaveNumber (suc ran) r → (is_committed g part ≡ false) × (is_committed g (part ++ r) ≡ says_committed r)
 end_said ran g c cs part r cut e end all more =
-    let is : end_number g ≡ suc ran = ends_next ran 1 g c cs cut e end ∙ omega arith in
-    (nothing_said ran g part all (omega arith)
-    , ap committed_in (replies_both (end_number g) part r
-      ∙ ap (λ xs. xs ++ replies_to (end_number g) r) (none_beyond ran (end_number g) part all (omega arith))
-      ∙ ap (λ n. replies_to n r) is ∙ all_replies (suc ran) r more))
+    let is : end_number g ≡ suc ran = ends_next ran 1 g c cs cut e end ∙ omega arith in (
+      nothing_said ran g part all (omega arith),
+      ap committed_in (replies_both (end_number g) part r
+          ∙ ap (λ xs. xs ++ replies_to (end_number g) r) (none_beyond ran (end_number g) part all (omega arith))
+          ∙ ap (λ n. replies_to n r) is ∙ all_replies (suc ran) r more),
+    )
 
 -- another command runs
 pub nothing_more_said : (ran : ℕ) (g : List Command) (c : Command) (cs : List Command) (part r : List Dss) → drop ran (numbered 1 g) ≡ c ∷ cs → is_end c ≡ false

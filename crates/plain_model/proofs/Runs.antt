@@ -46,7 +46,6 @@ pub and_true : (a b : Bool) → (a && b) ≡ true → (a ≡ true) × (b ≡ tru
 and_true true b e = (refl, e)
 and_true false b e = absurd (true≢false (sym e))
 
-
 -- ---- what the replies to the next command say
 
 -- before and after it ran: whether the unit's commit is told

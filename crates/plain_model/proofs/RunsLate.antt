@@ -52,8 +52,8 @@ late_keeps {S} {U} m s n q l (c ∷ cs) f some e = go (commits c (m.replies s (q
         record {
           books = books_more q.core.unit q.core.owed (is_bereft q.core.end) q.in_flight (put q.in_flight n after) l n f.books (omega arith) p.none p.open_still p.not_before
               (λ k h. by_equal k n
-                (λ ek. absurd (true≢false (sym (now k ek h) ∙ no_commit_after c cs cut.cut commit)))
-                (λ ne. (ne, elsewhere k ne h)))
+              (λ ek. absurd (true≢false (sym (now k ek h) ∙ no_commit_after c cs cut.cut commit)))
+              (λ ne. (ne, elsewhere k ne h)))
               shape;
           bereft_sent = f.bereft_sent;
           works = f.works;

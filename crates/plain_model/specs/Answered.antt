@@ -10,7 +10,7 @@ use Rattle.reply_texts.specs.Closing.{limit_reply}
 use Rattle.unit_segments.specs.declared.command.Command.{Command}
 use Rattle.unit_segments.specs.declared.registers.RegisterFault.{RegisterFault}
 use Rattle.unit_segments.specs.declared.registers.RegisterFault.TheVariants as fault
-use Rattle.unit_segments.specs.declared.strip.Stripped.{Stripped}
+use Rattle.unit_segments.specs.declared.stripped.Stripped.{Stripped}
 use Rattle.unit_segments.specs.Segment.{goes_on_a_run}
 use Rattle.unit_segments.specs.Spelling.{chain_bytes, join}
 use Rattle.unit_segments.specs.Accepts.{sets_only}

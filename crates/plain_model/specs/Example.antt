@@ -1,6 +1,6 @@
 -- A small group, and what its sessions are sent: cases that are worked out by hand. No standard speaks of them: they are this
 -- project's own.
-use Rattle.std.specs.Prelude.{◌≡◌, ℕ, suc, ◌+◌, ◌==◌, ◌&&◌, Bool, true, false, not, if◌then◌else◌, List, [], ◌∷◌, ◌++◌, codes, replicate}
+use Rattle.std.specs.Prelude.{◌≡◌, ℕ, suc, ◌+◌, ◌==◌, ◌||◌, ◌&&◌, Bool, true, false, not, if◌then◌else◌, List, [], ◌∷◌, ◌++◌, codes, replicate}
 use Rattle.std.specs.Prelude.{Option, Some, None, is_none}
 use Rattle.std.specs.List.{flat_map}
 use Rattle.dss_frame.specs.declared.dss.Dss.{Dss}
@@ -45,7 +45,7 @@ abbrev pub enduowrm : ℕ → Bool → List ℕ
 enduowrm disposition granted =
     if granted
     then 0x00 ∷ 0x14 ∷ 0x22 ∷ 0x0C ∷ 0x00 ∷ 0x06 ∷ 0x11 ∷ 0x49 ∷ 0x00 ∷ 0x04 ∷ 0x00 ∷ 0x05 ∷ 0x21 ∷ 0x15 ∷ disposition
-      ∷ 0x00 ∷ 0x05 ∷ 0x11 ∷ 0x9F ∷ 0xF2 ∷ []
+    ∷ 0x00 ∷ 0x05 ∷ 0x11 ∷ 0x9F ∷ 0xF2 ∷ []
     else 0x00 ∷ 0x0F ∷ 0x22 ∷ 0x0C ∷ 0x00 ∷ 0x06 ∷ 0x11 ∷ 0x49 ∷ 0x00 ∷ 0x04 ∷ 0x00 ∷ 0x05 ∷ 0x21 ∷ 0x15 ∷ disposition ∷ []
 
 -- release is granted where it is asked and no cursor is left
@@ -69,7 +69,7 @@ example_data s u c = if c.code == rdbcmm then suc s else s
 abbrev pub example_unit : ℕ → ExampleUnit → Command → ExampleUnit
 example_unit s u c =
     if c.code == rdbcmm then record { ran = 0; cursor = u.cursor }
-    else (if c.code == rdbrllbck then no_unit
+    else (if c.code == rdbrllbck || (c.code == secchk || c.code == accrdb) then no_unit
     else record { ran = suc u.ran; cursor = if c.code == opnqry then true else u.cursor })
 
 abbrev pub example : Meaning ℕ ExampleUnit

@@ -70,7 +70,7 @@ Leads m v typ mechanism u [] to = u ≡ to
 Leads {S} m v typ mechanism u (c ∷ cs) to = (s : S) → v.shared s
     → (m.data_after s u c ≡ s)
     × (accepts typ mechanism c.code (m.replies s u c) ≡ true
-        → Leads m v (told_typdef typ (m.replies s u c)) mechanism (m.unit_after s u c) cs to)
+    → Leads m v (told_typdef typ (m.replies s u c)) mechanism (m.unit_after s u c) cs to)
 
 -- ---- commands and replies
 
@@ -130,40 +130,32 @@ pub record Laws {S U : Type 0} (m : Meaning S U) (v : Values S U) : Type 0 where
   pub standing_unit : (st : Standing) (u : U) → v.stands st u → v.unit u
   pub data_kept : AlwaysBoth v (λ s u c. v.shared (m.data_after s u c))
   pub unit_kept : AlwaysBoth v (λ s u c. v.unit (m.unit_after s u c))
-
   -- each command is answered, under its number
   pub answered : AlwaysBoth v (λ s u c. AreReplies c (m.replies s u c))
-
   -- only a commit that is done changes the data, and no other end of a unit is a commit
   pub data_stay : AlwaysBoth v (λ s u c. commits c (m.replies s u c) ≡ false → m.data_after s u c ≡ s)
   pub nothing_else_commits : AlwaysBoth v (λ s u c. ends_unit (class_of c.code) ≡ true → (c.code == rdbcmm) ≡ false → says_committed (m.replies s u c) ≡ false)
-
   -- asking changes neither the data nor the rest of the replies, nor the unit where release isn't granted
   pub asking_same_data : Always v (λ s u c. m.data_after s u (asked c) ≡ m.data_after s u (unasked c))
   pub asking_same_replies : Always v (λ s u c. without_asked c (m.replies s u (asked c)) ≡ without_asked c (m.replies s u (unasked c)))
   pub asking_same_unit : Always v (λ s u c. releases (m.replies s u (asked c)) ≡ false → m.unit_after s u (asked c) ≡ m.unit_after s u (unasked c))
-
   -- the place of a command, its number and its go-on bit don't matter
   pub anywhere : Always v (λ s u c. (d : Command) → IsSame c d → DoesTheSame m s u (unasked c) (unasked d) × DoesTheSame m s u (asked c) (asked d))
-
   -- where release is granted, the asking command leads to attached, and the other one to where the session then stands
   pub released : WhereItStands v (λ st s u c. st.stage ≡ Accessed → ends_unit (class_of c.code) ≡ true
       → ends (m.replies s u (asked c)) ≡ true → releases (m.replies s u (asked c)) ≡ true
       → (log_with st (sets_in c (m.replies s u (asked c)))).fault ≡ None
       → (m.unit_after s u (asked c) ≡ m.base attached)
       × (m.unit_after s u (unasked c) ≡ m.base (after_end st (sets_in c (m.replies s u (asked c))))))
-
   -- where it isn't, the session stands there in the unit that it leads to
   pub held : WhereItStands v (λ st s u c. st.stage ≡ Accessed → ends_unit (class_of c.code) ≡ true
       → ends (m.replies s u (asked c)) ≡ true → releases (m.replies s u (asked c)) ≡ false
       → (log_with st (sets_in c (m.replies s u (asked c)))).fault ≡ None
       → v.stands (after_end st (sets_in c (m.replies s u (asked c)))) (m.unit_after s u (asked c)))
-
   -- EXCSAT leads to attached, and the commands that are sent again from there to where the session stands
   pub greeted : (typ : TypDef) (mechanism : ℕ) → Leads m v typ mechanism m.fresh (own_command excsat hello_object ∷ []) (m.base attached)
   pub led_back : (name : List ℕ) (typ : TypDef) (st : Standing) → AllByRecursion IsCommand (replayed name st.stage st.access st.log)
       → Leads m v typ st.access.secmec (m.base attached) (replayed name st.stage st.access st.log) (m.base st)
-
   -- access, step by step; access that is granted leads to the base
   pub at_base : (st : Standing) → v.stands st (m.base st)
   pub admitted : WhereItStands v (λ st s u c. st.stage ≡ Chosen → c.code ≡ secchk
@@ -174,12 +166,10 @@ pub record Laws {S U : Type 0} (m : Meaning S U) (v : Values S U) : Type 0 where
       → has_accrdbrm (m.replies s u c) ≡ true → m.unit_after s u c ≡ m.base (accessed c.body st))
   pub not_let_in : WhereItStands v (λ st s u c. st.stage ≡ Checked → c.code ≡ accrdb
       → has_accrdbrm (m.replies s u c) ≡ false → v.stands st (m.unit_after s u c))
-
   -- what doesn't end a unit leaves the session where it stands
   pub passed : WhereItStands v (λ st s u c. st.stage ≡ Accessed → class_of c.code ≡ Pass → v.stands st (m.unit_after s u c))
   pub not_ended : WhereItStands v (λ st s u c. st.stage ≡ Accessed → ends_unit (class_of c.code) ≡ true
       → ends (m.replies s u (asked c)) ≡ false → v.stands st (m.unit_after s u (asked c)))
-
   -- from the base of a session with access, SET statements lead to a unit, and to replies, that the data don't matter to
   pub sets_alone : (st : Standing) (cs : List Command) (s t : S) → st.stage ≡ Accessed → AllByRecursion Set cs → AllByRecursion IsCommand cs
       → v.shared s → v.shared t

@@ -8,4 +8,5 @@ pub mod Answered
 pub mod Lost
 pub mod Plain
 pub mod Told
+pub mod InWork
 pub mod Example

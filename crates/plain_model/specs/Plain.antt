@@ -3,7 +3,7 @@
 use Rattle.std.specs.Prelude.{◌≡◌, ◌≢◌, ℕ, zero, suc, ◌==◌, Bool, true, false, if◌then◌else◌, List, [], ◌∷◌, ◌++◌, drop, Option, Some, None}
 use Rattle.dss_frame.specs.declared.dss.Dss.{Dss}
 use Rattle.unit_segments.specs.declared.command.Command.{Command}
-use Rattle.unit_segments.specs.declared.strip.Stripped.{Stripped}
+use Rattle.unit_segments.specs.declared.stripped.Stripped.{Stripped}
 use Rattle.unit_segments.specs.Release.{asked}
 use Rattle.unit_segments.specs.Spelling.{numbered}
 use Rattle.unit_segments.specs.Strip.{stops, stripped}

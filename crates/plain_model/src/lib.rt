@@ -6,6 +6,9 @@ mod cases;
 mod group;
 mod laws;
 
-pub use cases::{local_answers, losses_of_commits, losses_of_work, no_member_is_left, sets_run_again, units_that_end};
+pub use cases::{
+    local_answers, losses_of_commits, losses_of_work, no_member_is_left, sets_run_again,
+    units_that_end,
+};
 pub use group::Group;
-pub use laws::each_unit_is_fair;
+pub use laws::{commits_are_counted, each_unit_is_fair, loss_is_told, lost_units_can_run_again, segments_stay_in_work};
