@@ -21,9 +21,13 @@ abbrev pub own_levels : List ℕ
 own_levels =
     flat_map (λ code. level_pair (record { code = code; level = greatest_level code })) (agent ∷ sqlam ∷ rdb ∷ secmgr ∷ cmntcpip ∷ [])
 
--- EXCSAT with these managers, a chain of its own: DDM, volume 3, EXCSAT
+-- EXCSAT with these managers: DDM, volume 3, EXCSAT
+abbrev pub hello_object : List ℕ
+hello_object = canonical_object excsat (canonical_object mgrlvlls own_levels)
+
+-- a chain of its own
 unfoldable pub hello_chain : List ℕ
-hello_chain = canonical (request 1 false (canonical_object excsat (canonical_object mgrlvlls own_levels)))
+hello_chain = canonical (request 1 false hello_object)
 
 -- ACCSEC: DDM, volume 3, ACCSEC
 unfoldable pub accsec_object : ℕ → List ℕ → List ℕ

@@ -7,6 +7,8 @@ pub mod Release
 pub mod Strip
 pub mod Statement
 pub mod Registers
+pub mod Handshake
+pub mod Accepts
 pub mod Body
 pub mod ChainReader
 pub mod Cut

@@ -1,5 +1,8 @@
--- How many commands a chain may have. No standard says: it is this project's choice.
+-- How many commands and bytes a chain of requests may have. No standard says: it is this project's choice.
 use Rattle.std.specs.Prelude.{ℕ}
 
 abbrev pub most_commands : ℕ
 most_commands = 4096
+
+abbrev pub most_chain_bytes : ℕ
+most_chain_bytes = 16777216

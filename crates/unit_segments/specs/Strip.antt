@@ -13,7 +13,7 @@ use Rattle.ddm_codepoints.specs.CodeClass.{class_of}
 use Rattle.ddm_codepoints.specs.CodePoint.{enduowrm, accrdbrm, srvlst, rlsconv, sqlcard, sqlstt, svrcod, uowdsp}
 use Rattle.ddm_codepoints.specs.Value.{error, committed, release}
 use Rattle.unit_segments.specs.declared.command.Command.{Command}
-use Rattle.unit_segments.specs.declared.strip.Stripped.{Stripped}
+use Rattle.unit_segments.specs.declared.stripped.Stripped.{Stripped}
 use Rattle.unit_segments.specs.Command.{ends_unit, code_of, data_of, parameter, has_two_bytes}
 use Rattle.unit_segments.specs.Release.{kept_members}
 

@@ -10,7 +10,7 @@ mod join;
 mod registers;
 mod segment;
 mod share;
-mod strip;
+mod stripped;
 
 pub use chain_reader::ChainReader;
 pub use command::{Chain, Command, CommandList};
@@ -18,7 +18,7 @@ pub use fault::ChainFault;
 pub use join::join_replies;
 pub use registers::RegisterFault;
 pub use segment::{Segment, SegmentList, cut};
-pub use strip::Stripped;
+pub use stripped::Stripped;
 
 #[cfg(test)]
 mod tests;
