@@ -1,7 +1,6 @@
 -- An account of one session: how often each of its units was committed, and what was told of it first; and what it keeps.
-use Rattle.std.proofs.Common.{◌≡◌, ◌≢◌, ◌⊎◌, inl, inr, ℕ, suc, pred, ◌≤◌, ◌<◌, Bool, true, false, if◌then◌else◌, List, [], ◌∷◌, Option, Some, None, ap, sym, refl, subst, ◌∙◌, le_refl, arith, true≢false}
-use Rattle.unit_segments.specs.declared.command.Command.{Command}
-use Rattle.plain_model.specs.Core.{Owed, Nothing, Rerouted, Unknown, has_commit}
+use Rattle.std.proofs.Common.{◌≡◌, ◌≢◌, ◌⊎◌, inl, inr, ℕ, suc, pred, ◌≤◌, ◌<◌, Bool, true, false, Option, Some, None, ap, sym, subst, ◌∙◌, le_refl, arith, true≢false}
+use Rattle.plain_model.specs.Core.{Owed, Nothing, Rerouted, has_commit}
 use Rattle.plain_model.specs.Plain.{InFlight, put}
 use Rattle.plain_model.specs.Told.{Outcome, Committed, RolledBack, ToldRerouted, ToldUnknown, Telling, first_of}
 use Rattle.plain_model.proofs.Puts.{by_equal, put_same, put_other, put_holds}

@@ -1,6 +1,5 @@
 -- The segment in work is answered: what a session keeps.
-use Rattle.std.proofs.Common.{◌≡◌, ◌≢◌, ℕ, suc, Bool, true, false, if◌then◌else◌, List, [], ◌∷◌, Option, Some, None, is_some, ap, sym, refl, subst, ◌∙◌, le_refl, true≢false}
-use Rattle.std.proofs.lemmas.Bool.{cond_both, cond-true, cond-false}
+use Rattle.std.proofs.Common.{◌≡◌, ℕ, suc, Bool, true, false, if◌then◌else◌, List, [], Option, Some, None, is_some, ap, sym, refl, subst, ◌∙◌, le_refl, true≢false}
 use Rattle.dss_frame.specs.declared.dss.Dss.{Dss}
 use Rattle.ddm_codepoints.specs.CodePoint.{uowdsp}
 use Rattle.ddm_codepoints.specs.Value.{committed}
@@ -9,10 +8,10 @@ use Rattle.unit_segments.specs.Strip.{stripped, has_ended, is_committed, end_say
 use Rattle.plain_model.specs.Core.{Core, first, number_in}
 use Rattle.plain_model.specs.Answered.{answered, register_fault}
 use Rattle.plain_model.specs.Plain.{Session, IsSending, seen, seen_of, segment_of, Answer}
-use Rattle.plain_model.specs.Told.{Outcome, Committed, RolledBack, Telling, telling, told_by}
-use Rattle.plain_model.proofs.Accounts.{Account, note, tell, Fits, Books, books_ended}
+use Rattle.plain_model.specs.Told.{Outcome, Committed, RolledBack, telling, told_by}
+use Rattle.plain_model.proofs.Accounts.{Account, note, tell, Fits, books_ended}
 use Rattle.plain_model.proofs.Cores.{is_bereft, IsAnswered, answered_is}
-use Rattle.plain_model.proofs.Facts.{Fact, FactOf, won, works_start, books_with, same_unit}
+use Rattle.plain_model.proofs.Facts.{Fact, FactOf, works_start, books_with, same_unit}
 
 seen_ended : (g : List Command) (part asking : List Dss) → (seen g part asking).ended ≡ has_ended g part
 unfolding stripped

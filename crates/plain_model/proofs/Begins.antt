@@ -1,13 +1,13 @@
 -- A chain comes into work, or a fault in its place: what a session keeps.
-use Rattle.std.proofs.Common.{◌≡◌, ◌≢◌, ℕ, Bool, true, false, if◌then◌else◌, List, [], ◌∷◌, Some, None, ap, sym, refl, subst, ◌∙◌, true≢false}
+use Rattle.std.proofs.Common.{◌≡◌, ℕ, if◌then◌else◌, List, [], None, ap, sym, refl, subst, ◌∙◌, true≢false}
 use Rattle.std.specs.List.{AllByRecursion}
 use Rattle.dss_frame.specs.declared.dss.Dss.{Dss}
 use Rattle.unit_segments.specs.Segment.{segments_of}
-use Rattle.plain_model.specs.Core.{Core, Nothing, first, settled, finished}
+use Rattle.plain_model.specs.Core.{Core, first, settled, finished}
 use Rattle.plain_model.specs.Group.{IsCommand}
 use Rattle.plain_model.specs.Begun.{Reading, Chain, Fault, TooLong, IsReading, begun}
 use Rattle.plain_model.specs.Plain.{InFlight}
-use Rattle.plain_model.proofs.Segments.{AreSegments, segments_cut}
+use Rattle.plain_model.proofs.Segments.{segments_cut}
 use Rattle.plain_model.proofs.Replies.{none_zero, committed_in}
 use Rattle.plain_model.proofs.Accounts.{Account}
 use Rattle.plain_model.proofs.Cores.{is_bereft, settled_finished}

@@ -1,14 +1,14 @@
 -- What local answers, and a chain that is finished, leave of a core.
-use Rattle.std.proofs.Common.{◌≡◌, ℕ, suc, Bool, true, false, ◌&&◌, ◌||◌, not, if◌then◌else◌, List, [], ◌∷◌, ◌++◌, Option, Some, None, ap, sym, refl, subst, ◌∙◌, true≢false}
-use Rattle.std.proofs.lemmas.Bool.{cond_both, cond-true, cond-false}
+use Rattle.std.proofs.Common.{◌≡◌, ℕ, suc, Bool, true, false, if◌then◌else◌, List, [], ◌∷◌, ◌++◌, Option, Some, None, ap, sym, refl, subst, ◌∙◌}
+use Rattle.std.proofs.lemmas.Bool.{cond_both}
 use Rattle.std.specs.List.{AllByRecursion}
 use Rattle.unit_segments.specs.declared.command.Command.{Command}
 use Rattle.unit_segments.specs.declared.stripped.Stripped.{Stripped}
 use Rattle.unit_segments.specs.declared.registers.RegisterFault.{RegisterFault}
 use Rattle.plain_model.specs.Group.{IsCommand}
 use Rattle.plain_model.specs.Local.{Locally, is_local, answered_locally}
-use Rattle.plain_model.specs.Core.{Core, Owed, Nothing, Rerouted, Unknown, End, AppEnded, AppFault, Refused, NoMember, Limit, After, Settled, first, others, still, moved_too, with_local, settle_by, settle_segments, settle_owed, settled, finish_by, finished}
-use Rattle.plain_model.specs.Answered.{with_work, with_end, unit_after, with_replies, answered_core, answered_by, past_limit, left_after, is_work, joins_again}
+use Rattle.plain_model.specs.Core.{Core, Owed, Nothing, Rerouted, Unknown, End, AppEnded, AppFault, Refused, NoMember, Limit, Settled, first, others, still, moved_too, with_local, settle_by, settle_segments, settle_owed, settled, finish_by, finished}
+use Rattle.plain_model.specs.Answered.{with_work, with_end, unit_after, answered_core, answered_by, left_after, is_work, joins_again}
 use Rattle.plain_model.proofs.Segments.{AreSegments, first_cut, others_cut}
 use Rattle.plain_model.proofs.Replies.{all_append}
 

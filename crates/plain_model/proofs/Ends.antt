@@ -1,19 +1,18 @@
 -- An owed error is told, no member is left, a limit is passed, the application ends: what a session keeps.
-use Rattle.std.proofs.Common.{◌≡◌, ◌≢◌, ℕ, pred, ◌<◌, Bool, true, false, if◌then◌else◌, List, [], ◌∷◌, Option, Some, None, ap, sym, refl, subst, ◌∙◌, le_refl, arith, true≢false}
-use Rattle.std.proofs.lemmas.Bool.{cond_both}
+use Rattle.std.proofs.Common.{◌≡◌, ◌≢◌, ℕ, pred, Bool, true, false, List, [], Option, Some, None, ap, sym, refl, subst, ◌∙◌, le_refl, arith, true≢false}
 use Rattle.access_handshake.specs.declared.stage.Stage.{Stage}
 use Rattle.access_handshake.specs.declared.stage.Stage.TheVariants.{New, Attached, Chosen, Checked, Accessed}
-use Rattle.plain_model.specs.Core.{Core, Owed, Nothing, Rerouted, Unknown, End, AppEnded, AppFault, LimitKind, first, has_commit}
+use Rattle.plain_model.specs.Core.{Core, Owed, Nothing, Rerouted, Unknown, End, LimitKind, first, has_commit}
 use Rattle.plain_model.specs.Lost.{accepted, none_left, closed, left, end_or, app_end}
-use Rattle.plain_model.specs.Plain.{Session, InFlight, GoesOn, IsSending, segment_of}
+use Rattle.plain_model.specs.Plain.{Session, InFlight, GoesOn, IsSending}
 use Rattle.plain_model.specs.Told.{ToldRerouted, ToldUnknown, owed_telling, last_telling, none_left_telling}
 use Rattle.std.specs.List.{AllByRecursion}
 use Rattle.unit_segments.specs.Strip.{is_committed}
 use Rattle.plain_model.specs.Group.{IsCommand}
 use Rattle.plain_model.proofs.Segments.{AreSegments}
-use Rattle.plain_model.proofs.Accounts.{Account, Books, Fits, note, tell, books_told, books_bereft}
+use Rattle.plain_model.proofs.Accounts.{Account, Books, note, books_told, books_bereft}
 use Rattle.plain_model.proofs.Cores.{is_bereft}
-use Rattle.plain_model.proofs.Facts.{Fact, FactOf, Works, won, works_start, still_won}
+use Rattle.plain_model.proofs.Facts.{Fact, FactOf, won, works_start, still_won}
 
 nothing_rerouted : Nothing ≡ Rerouted → ⊥
 nothing_rerouted e = cc

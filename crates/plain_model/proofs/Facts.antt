@@ -1,14 +1,13 @@
 -- The fact that every session keeps: of its account, and of the segment in work.
-use Rattle.std.proofs.Common.{◌≡◌, ◌≢◌, ℕ, zero, suc, ◌≤◌, Bool, true, false, if◌then◌else◌, List, [], ◌∷◌, drop, Option, Some, None, ap, sym, refl, subst, ◌∙◌, true≢false}
+use Rattle.std.proofs.Common.{◌≡◌, ◌≢◌, ℕ, Bool, true, false, if◌then◌else◌, List, [], ap, sym, refl, subst, ◌∙◌}
 use Rattle.std.specs.List.{AllByRecursion}
 use Rattle.dss_frame.specs.declared.dss.Dss.{Dss}
 use Rattle.unit_segments.specs.declared.command.Command.{Command}
-use Rattle.unit_segments.specs.Spelling.{numbered}
-use Rattle.unit_segments.specs.Strip.{is_committed, stops}
-use Rattle.plain_model.specs.Core.{Core, Owed, Nothing, End, first, has_commit}
+use Rattle.unit_segments.specs.Strip.{is_committed}
+use Rattle.plain_model.specs.Core.{Core, Owed, Nothing, first, has_commit}
 use Rattle.plain_model.specs.Group.{IsCommand}
-use Rattle.plain_model.specs.Plain.{Session, InFlight, segment_of, left_to_run}
-use Rattle.plain_model.proofs.Segments.{AreSegments, IsSegment}
+use Rattle.plain_model.specs.Plain.{Session, InFlight}
+use Rattle.plain_model.proofs.Segments.{AreSegments}
 use Rattle.plain_model.proofs.Replies.{AreUpTo}
 use Rattle.plain_model.proofs.Accounts.{Account, Books}
 use Rattle.plain_model.proofs.Cores.{is_bereft}

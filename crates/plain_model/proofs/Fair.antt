@@ -1,15 +1,15 @@
 -- Each unit of work is committed at most once, and as it is told: over all events, by the fact that every session keeps.
-use Rattle.std.proofs.Common.{◌≡◌, ◌≢◌, ℕ, suc, ◌+◌, ◌≤◌, ◌==◌, ◌&&◌, Bool, true, false, if◌then◌else◌, List, [], ◌∷◌, Option, Some, None, length, filter, ap, sym, refl, subst, ◌∙◌, arith, true≢false, eqb, eqb-true, eq-eqb}
-use Rattle.std.proofs.lemmas.Bool.{cond_both, cond-true, cond-false}
+use Rattle.std.proofs.Common.{◌≡◌, ◌≢◌, ℕ, suc, ◌+◌, ◌==◌, ◌&&◌, Bool, true, false, if◌then◌else◌, List, [], ◌∷◌, Option, Some, None, length, filter, ap, sym, refl, subst, ◌∙◌, arith, true≢false, eqb, eqb-true, eq-eqb}
+use Rattle.std.proofs.lemmas.Bool.{cond-false}
 use Rattle.plain_model.specs.Group.{Meaning, Values, Laws}
-use Rattle.plain_model.specs.Core.{Core, new_core}
+use Rattle.plain_model.specs.Core.{new_core}
 use Rattle.plain_model.specs.Plain.{Session, State, Event, What, Begin, Sent, Run, Answer, Lose, RunLate, Accept, NoneLeft, Close, Leave, IsPossible, ArePossible, new_session, start, put, to_run, session_after, after_event}
 use Rattle.plain_model.specs.Standing.{attached}
 use Rattle.plain_model.specs.Told.{UnitName, unit_name, committed_by, unit_before, committed, commits_of, Outcome, Committed, RolledBack, ToldRerouted, Telling, told_by, is_of, first_of, told, IsFair, EachUnitIsFair}
 use Rattle.plain_model.proofs.Puts.{by_equal, put_same, put_other, put_holds}
 use Rattle.plain_model.proofs.Segments.{nothing_cut}
-use Rattle.plain_model.proofs.Accounts.{Account, new_account, count, note, tell, more, Fits}
-use Rattle.plain_model.proofs.Facts.{Fact, FactOf, works_start}
+use Rattle.plain_model.proofs.Accounts.{Account, new_account, count, note, Fits}
+use Rattle.plain_model.proofs.Facts.{Fact, works_start}
 use Rattle.plain_model.proofs.Begins.{begin_keeps}
 use Rattle.plain_model.proofs.Runs.{run_keeps}
 use Rattle.plain_model.proofs.Answering.{answer_keeps}

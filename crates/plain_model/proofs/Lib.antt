@@ -13,3 +13,4 @@ pub mod Ends
 pub mod Keeps
 pub mod Fair
 pub mod Staying
+pub mod Sounding

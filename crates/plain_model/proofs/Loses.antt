@@ -1,19 +1,17 @@
 -- The conversation is lost: what a session keeps.
-use Rattle.std.proofs.Common.{◌≡◌, ◌≢◌, ◌⊎◌, inl, inr, ℕ, suc, ◌&&◌, ◌||◌, Bool, true, false, if◌then◌else◌, List, [], ◌∷◌, drop, ap, sym, refl, subst, ◌∙◌, le_refl, true≢false}
+use Rattle.std.proofs.Common.{◌≡◌, ◌≢◌, inl, inr, ℕ, suc, ◌&&◌, ◌||◌, Bool, true, false, if◌then◌else◌, List, [], drop, ap, sym, refl, subst, ◌∙◌, le_refl, true≢false}
 use Rattle.std.proofs.lemmas.Bool.{cond_both, cond-true, cond-false}
-use Rattle.std.specs.List.{AllByRecursion}
 use Rattle.dss_frame.specs.declared.dss.Dss.{Dss}
 use Rattle.unit_segments.specs.declared.command.Command.{Command}
 use Rattle.unit_segments.specs.Spelling.{numbered}
-use Rattle.unit_segments.specs.Strip.{stops, is_committed}
-use Rattle.plain_model.specs.Group.{IsCommand}
+use Rattle.unit_segments.specs.Strip.{stops}
 use Rattle.plain_model.specs.Core.{Core, Owed, Nothing, Rerouted, Unknown, first, has_commit}
 use Rattle.plain_model.specs.Lost.{commit_sent, owes, lost_owing, lost}
 use Rattle.plain_model.specs.Plain.{Session, InFlight, put, segment_of, left_to_run, to_run, left_in_flight}
 use Rattle.plain_model.proofs.Puts.{by_equal, put_same, put_other, put_holds}
-use Rattle.plain_model.proofs.Segments.{AreSegments, IsSegment, first_cut, nothing_cut, numbered_segment, drop_segment}
+use Rattle.plain_model.proofs.Segments.{IsSegment, first_cut, nothing_cut, numbered_segment, drop_segment}
 use Rattle.plain_model.proofs.Replies.{AreUpTo, commit_left}
-use Rattle.plain_model.proofs.Accounts.{Account, Books, books_owed}
+use Rattle.plain_model.proofs.Accounts.{Account, books_owed}
 use Rattle.plain_model.proofs.Cores.{is_bereft}
 use Rattle.plain_model.proofs.Facts.{Fact, FactOf, Works, won, works_start, still_won, same_unit}
 use Rattle.plain_model.proofs.Runs.{and_true}

@@ -1,6 +1,6 @@
 -- Replies and their numbers: what a segment's replies say of its unit of work is what those to the command say that ends it.
-use Rattle.std.proofs.Common.{◌≡◌, ◌≢◌, ℕ, zero, suc, ◌+◌, ◌≤◌, ◌<◌, ◌==◌, Bool, true, false, if◌then◌else◌, List, [], ◌∷◌, ◌++◌, filter, find, refl, sym, subst, ap, ◌∙◌, arith, true≢false, eqb, eqb-true, eq-eqb}
-use Rattle.std.proofs.lemmas.Bool.{eqb-false, cond-true, cond-false}
+use Rattle.std.proofs.Common.{◌≡◌, ◌≢◌, ℕ, suc, ◌≤◌, ◌<◌, ◌==◌, Bool, true, false, List, [], ◌∷◌, ◌++◌, find, refl, sym, ap, ◌∙◌, arith, eqb, eqb-true, eq-eqb}
+use Rattle.std.proofs.lemmas.Bool.{cond-true, cond-false}
 use Rattle.std.proofs.lemmas.List.Elements.{filter-append}
 use Rattle.std.specs.List.{AllByRecursion}
 use Rattle.dss_frame.specs.declared.dss.Dss.{Dss}
@@ -9,7 +9,7 @@ use Rattle.ddm_codepoints.specs.Value.{committed}
 use Rattle.link_ends.proofs.Lists.{all_weaker}
 use Rattle.unit_segments.specs.declared.command.Command.{Command}
 use Rattle.unit_segments.specs.Spelling.{numbered}
-use Rattle.unit_segments.specs.Strip.{is_object_of, end_says, end_number, replies_to, end_message, is_committed}
+use Rattle.unit_segments.specs.Strip.{is_object_of, end_says, end_number, replies_to, is_committed}
 use Rattle.plain_model.specs.UnitEnd.{says_committed}
 use Rattle.plain_model.proofs.Segments.{IsCut, is_end, ends_next, not_end_next, commit_behind}
 use Rattle.plain_model.specs.Core.{has_commit}

@@ -1,7 +1,6 @@
 -- The next command of the segment in work runs: what a session keeps.
-use Rattle.std.proofs.Common.{◌≡◌, ◌≢◌, ℕ, suc, ◌≤◌, ◌<◌, ◌+◌, ◌==◌, ◌&&◌, Bool, true, false, if◌then◌else◌, List, [], ◌∷◌, ◌++◌, drop, Option, Some, None, ap, sym, refl, subst, ◌∙◌, le_refl, arith, true≢false}
+use Rattle.std.proofs.Common.{◌≡◌, ◌≢◌, ℕ, suc, ◌<◌, ◌+◌, ◌==◌, ◌&&◌, Bool, true, false, if◌then◌else◌, List, [], ◌∷◌, ◌++◌, drop, Some, None, ap, sym, refl, subst, ◌∙◌, le_refl, arith, true≢false}
 use Rattle.std.proofs.lemmas.Bool.{cond_both, cond-true, cond-false}
-use Rattle.std.specs.List.{AllByRecursion}
 use Rattle.dss_frame.specs.declared.dss.Dss.{Dss}
 use Rattle.ddm_objects.specs.Objects.{canonical_object}
 use Rattle.ddm_codepoints.specs.CodeClass.{class_of}
@@ -14,15 +13,14 @@ use Rattle.unit_segments.specs.Spelling.{numbered}
 use Rattle.unit_segments.specs.Strip.{stops, is_committed}
 use Rattle.plain_model.specs.UnitEnd.{unasked, says_committed, commits}
 use Rattle.plain_model.specs.Group.{Meaning, Values, Laws, IsCommand, IsReplyTo}
-use Rattle.plain_model.specs.Core.{Core, Nothing, first, has_commit}
-use Rattle.plain_model.specs.Plain.{Session, IsSending, InFlight, segment_of, left_to_run, run_first}
+use Rattle.plain_model.specs.Plain.{Session, IsSending, segment_of, left_to_run, run_first}
 use Rattle.plain_model.specs.Told.{run_commits}
 use Rattle.plain_model.proofs.Puts.{put_same}
 use Rattle.plain_model.proofs.Segments.{IsSegment, is_end, first_cut, numbered_segment, drop_segment, next_number, commit_ends, no_commit_next}
 use Rattle.plain_model.proofs.Replies.{HaveNumber, AreUpTo, one_more, end_said, nothing_more_said}
-use Rattle.plain_model.proofs.Accounts.{Account, more, count, books_more, rerouted_nothing, IsOpen}
+use Rattle.plain_model.proofs.Accounts.{Account, count, books_more, rerouted_nothing, IsOpen}
 use Rattle.plain_model.proofs.Cores.{is_bereft}
-use Rattle.plain_model.proofs.Facts.{Fact, FactOf, Works, won}
+use Rattle.plain_model.proofs.Facts.{Fact, Works}
 
 -- ---- a command without asking
 

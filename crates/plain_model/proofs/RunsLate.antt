@@ -1,15 +1,15 @@
 -- A command that was on its way when its unit was lost runs: what a session keeps.
-use Rattle.std.proofs.Common.{◌≡◌, ◌≢◌, ℕ, suc, ◌<◌, ◌==◌, ◌&&◌, ◌||◌, Bool, true, false, if◌then◌else◌, List, [], ◌∷◌, Some, None, ap, sym, refl, subst, ◌∙◌, arith, true≢false}
+use Rattle.std.proofs.Common.{◌≡◌, ◌≢◌, ℕ, suc, ◌==◌, ◌||◌, Bool, true, false, if◌then◌else◌, List, [], ◌∷◌, Some, None, ap, sym, refl, subst, ◌∙◌, arith, true≢false}
 use Rattle.unit_segments.specs.declared.command.Command.{Command}
 use Rattle.ddm_codepoints.specs.CodePoint.{rdbcmm}
 use Rattle.plain_model.specs.UnitEnd.{unasked, says_committed, commits}
 use Rattle.plain_model.specs.Group.{Meaning}
-use Rattle.plain_model.specs.Core.{Nothing, has_commit}
+use Rattle.plain_model.specs.Core.{has_commit}
 use Rattle.plain_model.specs.Plain.{Session, InFlight, put, run_late}
 use Rattle.plain_model.specs.Told.{run_commits}
 use Rattle.plain_model.proofs.Puts.{by_equal, put_same, put_other, put_holds}
 use Rattle.plain_model.proofs.Segments.{IsSegment, no_commit_after}
-use Rattle.plain_model.proofs.Accounts.{Account, Books, count, books_more}
+use Rattle.plain_model.proofs.Accounts.{Account, count, books_more}
 use Rattle.plain_model.proofs.Cores.{is_bereft}
 use Rattle.plain_model.proofs.Facts.{Fact}
 use Rattle.plain_model.proofs.Runs.{and_true}

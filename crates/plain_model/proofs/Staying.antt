@@ -1,14 +1,14 @@
 -- What is told of a loss, what stays in work, and how many commits there are.
-use Rattle.std.proofs.Common.{◌≡◌, ◌≢◌, ◌⊎◌, inl, inr, ℕ, suc, ◌||◌, Bool, true, false, if◌then◌else◌, List, [], ◌∷◌, length, Option, Some, None, is_some, ap, sym, refl, subst, ◌∙◌, arith, true≢false}
-use Rattle.std.proofs.lemmas.Bool.{cond_both, cond-true, cond-false}
+use Rattle.std.proofs.Common.{◌≡◌, inl, inr, ℕ, suc, ◌||◌, Bool, true, false, if◌then◌else◌, List, [], ◌∷◌, length, Option, Some, None, is_some, ap, sym, refl, ◌∙◌, arith, true≢false}
+use Rattle.std.proofs.lemmas.Bool.{cond_both, cond-false}
 use Rattle.unit_segments.specs.declared.command.Command.{Command}
 use Rattle.unit_segments.specs.Strip.{has_ended, is_committed}
 use Rattle.plain_model.specs.Group.{Meaning}
 use Rattle.plain_model.specs.Core.{Core, Owed, Nothing, Rerouted, Unknown}
 use Rattle.plain_model.specs.Lost.{commit_sent, owes, lost_owing, lost}
-use Rattle.plain_model.specs.Plain.{Session, State, Event, What, Begin, Sent, Run, Answer, Lose, RunLate, Accept, NoneLeft, Close, Leave, IsPossible, segment_of, to_run, run_first, run_late, session_after, after_event}
-use Rattle.plain_model.specs.Told.{Outcome, Committed, RolledBack, ToldRerouted, ToldUnknown, Telling, UnitName, unit_before, told_by, committed_by, committed}
-use Rattle.plain_model.specs.InWork.{tells_loss, settles, LossIsTold, StaysInWork, CanRunAgain, commit_events, AllAreCounted}
+use Rattle.plain_model.specs.Plain.{Session, Begin, Sent, Run, Answer, Lose, RunLate, Accept, NoneLeft, Close, Leave, segment_of, to_run, run_first, run_late, after_event}
+use Rattle.plain_model.specs.Told.{Outcome, Committed, RolledBack, Telling, UnitName, unit_before, told_by, committed_by, committed}
+use Rattle.plain_model.specs.InWork.{tells_loss, LossIsTold, StaysInWork, CanRunAgain, commit_events, AllAreCounted}
 
 -- ---- what is told
 
@@ -95,4 +95,4 @@ pub all_are_counted : {S U : Type 0} (name : List ℕ) (m : Meaning S U) → All
 all_are_counted name m p [] = refl
 all_are_counted name m p (e ∷ es) =
     one_more e.session (committed_by m p.shared (p.session e.session) e.what) (committed name m (after_event name m p e) es) (commit_events name m (after_event name m p e) es)
-        (all_are_counted name m (after_event name m p e) es)
+    (all_are_counted name m (after_event name m p e) es)

@@ -1,10 +1,8 @@
 -- The segment in work is answered. DRDA, volume 3, ENDUOWRM, EXCSQLSET; DDM, volume 3, SECCHKRM, ACCRDBRM, RSCLMTRM. What runs
 -- again without a word, and how much of it, is this project's own.
-use Rattle.std.specs.Prelude.{ℕ, suc, Bool, true, false, not, ◌==◌, ◌&&◌, ◌||◌, nat_le, if◌then◌else◌, List, [], ◌∷◌, ◌++◌, length}
+use Rattle.std.specs.Prelude.{ℕ, suc, Bool, true, false, not, ◌==◌, ◌&&◌, nat_le, if◌then◌else◌, List, [], ◌∷◌, ◌++◌, length}
 use Rattle.std.specs.Prelude.{Option, Some, None}
 use Rattle.dss_frame.specs.declared.dss.Dss.{Dss}
-use Rattle.ddm_codepoints.specs.declared.typdef.TypDef.{TypDef}
-use Rattle.ddm_codepoints.specs.CodeClass.{class_of}
 use Rattle.ddm_codepoints.specs.CodePoint.{secchk, accrdb}
 use Rattle.reply_texts.specs.Closing.{limit_reply}
 use Rattle.unit_segments.specs.declared.command.Command.{Command}

@@ -1,7 +1,7 @@
 -- A session without its unit and without bytes: all that the replies alone determine of it. The gateway's session and a
 -- session of its own both have it, and the same functions change it. DRDA, volume 1, units of work; what is kept for a lost
 -- unit is this project's own.
-use Rattle.std.specs.Prelude.{ℕ, Bool, true, false, ◌==◌, ◌||◌, List, [], ◌∷◌, ◌++◌, Option, Some, None, is_none, if◌then◌else◌}
+use Rattle.std.specs.Prelude.{ℕ, Bool, false, ◌==◌, ◌||◌, List, [], ◌∷◌, ◌++◌, Option, Some, None, if◌then◌else◌}
 use Rattle.dss_frame.specs.declared.dss.Dss.{Dss}
 use Rattle.ddm_codepoints.specs.declared.typdef.TypDef.{TypDef}
 use Rattle.ddm_codepoints.specs.declared.typdef.TypDef.TheVariants.{Sql370}

@@ -1,19 +1,17 @@
 -- A small group, and what its sessions are sent: cases that are worked out by hand. No standard speaks of them: they are this
 -- project's own.
-use Rattle.std.specs.Prelude.{◌≡◌, ℕ, suc, ◌+◌, ◌==◌, ◌||◌, ◌&&◌, Bool, true, false, not, if◌then◌else◌, List, [], ◌∷◌, ◌++◌, codes, replicate}
-use Rattle.std.specs.Prelude.{Option, Some, None, is_none}
+use Rattle.std.specs.Prelude.{◌≡◌, ℕ, suc, ◌==◌, ◌||◌, ◌&&◌, Bool, true, false, not, if◌then◌else◌, List, [], ◌∷◌, ◌++◌, codes, replicate}
+use Rattle.std.specs.Prelude.{Option}
 use Rattle.std.specs.List.{flat_map}
 use Rattle.dss_frame.specs.declared.dss.Dss.{Dss}
-use Rattle.dss_frame.specs.declared.dss.Kind.{Kind}
 use Rattle.dss_frame.specs.declared.dss.Kind.TheVariants as kind
 use Rattle.ddm_codepoints.specs.CodePoint.{excsat, accsec, secchk, accrdb, rdbcmm, rdbrllbck, opnqry, excsqlimm, excsqlset, rlsconv}
 use Rattle.reply_texts.specs.Closing.{last}
 use Rattle.unit_segments.specs.declared.command.Command.{Command}
 use Rattle.unit_segments.specs.Command.{data_of, has}
-use Rattle.plain_model.specs.Standing.{Standing, attached}
 use Rattle.plain_model.specs.Group.{Meaning}
-use Rattle.plain_model.specs.Begun.{Reading, Chain}
-use Rattle.plain_model.specs.Plain.{State, Event, What, Begin, Sent, Run, Answer, Lose, RunLate, Accept, NoneLeft, start, plain, ArePossible, out_of}
+use Rattle.plain_model.specs.Begun.{Chain}
+use Rattle.plain_model.specs.Plain.{Event, What, Begin, Sent, Run, Answer, start, plain, out_of}
 use Rattle.plain_model.specs.Told.{Outcome, committed, commits_of, told}
 
 -- ---- the group: its data count the commits that are done, and a unit counts its commands and knows whether it has a cursor

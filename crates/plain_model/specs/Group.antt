@@ -1,8 +1,8 @@
 -- A group of members that share data: what a command does to the data and to the unit of a conversation, and what it is
 -- answered. DRDA, volume 1, units of work; DRDA, volume 3, the commands. That these laws are asked of a group is this
 -- project's own.
-use Rattle.std.specs.Prelude.{◌≡◌, ◌≢◌, ◌≤◌, ◌==◌, ℕ, Bool, true, false, List, [], ◌∷◌, map, length, find, Option, Some, None, is_some}
-use Rattle.std.specs.Prelude.{option_and_then, unwrap_or}
+use Rattle.std.specs.Prelude.{◌≡◌, ◌≢◌, ◌≤◌, ◌==◌, ℕ, true, false, List, [], ◌∷◌, map, length, find, Option, Some, None, is_some}
+use Rattle.std.specs.Prelude.{option_and_then}
 use Rattle.std.specs.List.{AllByRecursion}
 use Rattle.dss_frame.specs.declared.dss.Dss.{Dss}
 use Rattle.ddm_codepoints.specs.declared.typdef.TypDef.{TypDef}

@@ -1,6 +1,6 @@
 -- What is told of a loss, and when, and what stays in work. DRDA, volume 3, ABNUOWRM. That a lost segment stays in work is this
 -- project's own.
-use Rattle.std.specs.Prelude.{◌≡◌, ◌≢◌, ◌⊎◌, ℕ, suc, ◌||◌, Bool, true, false, if◌then◌else◌, List, [], ◌∷◌, length, Option, Some, None, is_some}
+use Rattle.std.specs.Prelude.{◌≡◌, ◌≢◌, ◌⊎◌, ℕ, suc, ◌||◌, Bool, true, false, if◌then◌else◌, List, [], ◌∷◌, length, Some, is_some}
 use Rattle.plain_model.specs.Group.{Meaning}
 use Rattle.plain_model.specs.Core.{Core, Nothing}
 use Rattle.plain_model.specs.Lost.{commit_sent, lost}

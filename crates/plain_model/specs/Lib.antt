@@ -9,4 +9,5 @@ pub mod Lost
 pub mod Plain
 pub mod Told
 pub mod InWork
+pub mod Sound
 pub mod Example

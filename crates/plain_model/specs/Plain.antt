@@ -1,16 +1,16 @@
 -- What an application may believe: that it has a conversation of its own with a server that is never lost, over data that all
 -- share. DRDA, volume 1, units of work. Its events, and where each can stand, are this project's own.
-use Rattle.std.specs.Prelude.{◌≡◌, ◌≢◌, ℕ, zero, suc, ◌==◌, Bool, true, false, if◌then◌else◌, List, [], ◌∷◌, ◌++◌, drop, Option, Some, None}
+use Rattle.std.specs.Prelude.{◌≡◌, ◌≢◌, ℕ, suc, ◌==◌, Bool, true, false, if◌then◌else◌, List, [], ◌∷◌, ◌++◌, drop, None}
 use Rattle.dss_frame.specs.declared.dss.Dss.{Dss}
 use Rattle.unit_segments.specs.declared.command.Command.{Command}
 use Rattle.unit_segments.specs.declared.stripped.Stripped.{Stripped}
 use Rattle.unit_segments.specs.Release.{asked}
 use Rattle.unit_segments.specs.Spelling.{numbered}
 use Rattle.unit_segments.specs.Strip.{stops, stripped}
-use Rattle.plain_model.specs.Standing.{Standing, new, attached}
+use Rattle.plain_model.specs.Standing.{attached}
 use Rattle.plain_model.specs.UnitEnd.{unasked}
 use Rattle.plain_model.specs.Group.{Meaning, led}
-use Rattle.plain_model.specs.Core.{Core, After, Owed, Nothing, End, LimitKind, new_core, first, has_commit}
+use Rattle.plain_model.specs.Core.{Core, After, Nothing, LimitKind, new_core, first}
 use Rattle.plain_model.specs.Begun.{Reading, IsReading, begun}
 use Rattle.plain_model.specs.Answered.{answered}
 use Rattle.plain_model.specs.Lost.{commit_sent, lost, accepted, none_left, closed, left}

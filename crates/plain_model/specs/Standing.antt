@@ -1,6 +1,6 @@
 -- Where a session stands with its server, and where its commands lead it. DDM, volume 3, EXCSAT, ACCSEC, SECCHK, ACCRDB; DRDA,
 -- volume 3, EXCSQLSET.
-use Rattle.std.specs.Prelude.{ℕ, Bool, if◌then◌else◌, List, [], option_and_then, unwrap_or}
+use Rattle.std.specs.Prelude.{ℕ, if◌then◌else◌, List, [], option_and_then, unwrap_or}
 use Rattle.dss_frame.specs.declared.dss.Dss.{Dss}
 use Rattle.ddm_codepoints.specs.declared.typdef.TypDef.{TypDef}
 use Rattle.ddm_codepoints.specs.declared.typdef.TypDef.TheVariants.{SqlAsc}

@@ -1,15 +1,15 @@
 -- How often a unit of work was committed, and what its application was told of it. DDM, volume 3, ENDUOWRM, ABNUOWRM. How units
 -- are numbered and counted is this project's own.
-use Rattle.std.specs.Prelude.{◌≡◌, ◌≤◌, ℕ, suc, pred, ◌==◌, ◌&&◌, Bool, false, if◌then◌else◌, List, [], ◌∷◌, length, filter}
+use Rattle.std.specs.Prelude.{◌≡◌, ◌≤◌, ℕ, pred, ◌==◌, ◌&&◌, Bool, false, if◌then◌else◌, List, [], ◌∷◌, length, filter}
 use Rattle.std.specs.Prelude.{Option, Some, None}
 use Rattle.access_handshake.specs.declared.stage.Stage.{Stage}
-use Rattle.access_handshake.specs.declared.stage.Stage.TheVariants.{New, Attached, Chosen, Checked, Accessed}
+use Rattle.access_handshake.specs.declared.stage.Stage.TheVariants.{Accessed}
 use Rattle.unit_segments.specs.declared.command.Command.{Command}
 use Rattle.unit_segments.specs.Strip.{has_ended, is_committed}
 use Rattle.plain_model.specs.UnitEnd.{unasked, commits}
 use Rattle.plain_model.specs.Group.{Meaning}
 use Rattle.plain_model.specs.Core.{Core, Owed, Nothing, Rerouted, Unknown}
-use Rattle.plain_model.specs.Plain.{Session, State, What, Event, Begin, Sent, Run, Answer, Lose, RunLate, Accept, NoneLeft, Close, Leave, ArePossible, after_event, start, put, segment_of, to_run}
+use Rattle.plain_model.specs.Plain.{Session, State, What, Event, Run, Answer, RunLate, Accept, NoneLeft, ArePossible, after_event, start, segment_of, to_run}
 
 -- ---- commits
 

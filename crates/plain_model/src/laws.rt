@@ -2,6 +2,7 @@
 
 ghost use Rattle.std.specs.Prelude.{ℕ, List};
 ghost use Rattle.plain_model.specs.Told.{EachUnitIsFair};
+ghost use Rattle.plain_model.specs.Sound.{EachCoreIsSound};
 ghost use Rattle.plain_model.specs.InWork.{LossIsTold, StaysInWork, CanRunAgain, AllAreCounted};
 
 use crate::group::Group;
@@ -31,4 +32,10 @@ pub fn lost_units_can_run_again()
 /// The commits of all units together are the commands that committed.
 pub fn commits_are_counted<G: Group>(_group: &G)
     ensures { (name : List ℕ) → AllAreCounted name G.meaning }
+{}
+
+/// Whatever happens, the core of every session is sound: what runs again sets registers alone and isn't too much, nothing is
+/// done while an error is owed, and else a server answers the segment in work.
+pub fn each_core_is_sound<G: Group>(_group: &G)
+    ensures { (name : List ℕ) → EachCoreIsSound name G.meaning }
 {}

@@ -11,4 +11,7 @@ pub use cases::{
     units_that_end,
 };
 pub use group::Group;
-pub use laws::{commits_are_counted, each_unit_is_fair, loss_is_told, lost_units_can_run_again, segments_stay_in_work};
+pub use laws::{
+    commits_are_counted, each_core_is_sound, each_unit_is_fair, loss_is_told,
+    lost_units_can_run_again, segments_stay_in_work,
+};
