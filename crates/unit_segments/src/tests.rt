@@ -219,7 +219,7 @@ fn refuses(rt: HostRuntime) -> Result<(), Fail> {
     for (front, before) in FRONTS {
         for (bytes, place, err, corr) in rows {
             let (_, fault) = read(rt.alloc(), behind(rt.alloc(), front, bytes)?.as_slice())?;
-            let at = place + front.len() as u64;
+            let at = place.saturating_add(front.len() as u64);
             let corr = corr.unwrap_or(before);
             assert_eq!(rt; fault, Some(ChainFault::Syntax { at, err, corr }));
         }
@@ -249,7 +249,7 @@ fn refuses_frames(rt: HostRuntime) -> Result<(), Fail> {
         for (bytes, place, why, corr) in rows {
             let all = behind(rt.alloc(), front, bytes)?;
             let fault = Reader::new(rt.alloc(), Side::Requests, LIMIT).feed(all.as_slice());
-            let at = place + front.len() as u64;
+            let at = place.saturating_add(front.len() as u64);
             let corr = corr.unwrap_or(before);
             assert_eq!(rt; fault, Err(FeedFault::Frame { at, why, corr }));
         }
