@@ -8,17 +8,26 @@ mod command;
 mod fault;
 mod join;
 mod registers;
+mod release;
+mod reply;
+mod rewrite;
 mod segment;
 mod share;
+mod statement;
 mod stripped;
+mod write;
 
 pub use chain_reader::ChainReader;
 pub use command::{Chain, Command, CommandList};
 pub use fault::ChainFault;
 pub use join::join_replies;
-pub use registers::RegisterFault;
+pub use registers::{RegisterFault, RegisterLog};
+pub use release::ask_release;
 pub use segment::{Segment, SegmentList, cut};
-pub use stripped::Stripped;
+pub use stripped::{Stripped, strip};
+pub use write::write_chain;
 
+#[cfg(test)]
+mod reply_tests;
 #[cfg(test)]
 mod tests;
