@@ -135,6 +135,18 @@ fn managers(rt: HostRuntime) {
 }
 
 #[test]
+fn values(rt: HostRuntime) {
+    let severities = [value::INFO, value::WARNING, value::ERROR, value::SEVERE];
+    assert_eq!(rt; severities, [0, 4, 8, 16]);
+    assert_eq!(rt; [value::COMMITTED, value::ROLLED_BACK], [1, 2]);
+    assert_eq!(rt; [value::USER_AND_PASSWORD, value::USER_ALONE], [3, 4]);
+    assert_eq!(rt;
+        [value::ADMITTED, value::RELEASE, value::RETURN_SETS],
+        [0, 0xF2, 0xF1]
+    );
+}
+
+#[test]
 fn characters(rt: HostRuntime) {
     let mut known = 0u32;
     for (text, first) in ROWS {

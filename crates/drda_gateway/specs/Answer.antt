@@ -11,8 +11,10 @@ use Rattle.dss_frame.specs.declared.fault.StreamFault.{StreamFault}
 use Rattle.dss_frame.specs.declared.fault.StreamFault.TheVariants.{Frame, TooLong}
 use Rattle.dss_frame.specs.Dss.{canonical}
 use Rattle.ddm_objects.specs.declared.fault.ObjFault.{ObjFault}
-use Rattle.ddm_objects.specs.Objects.{Member, outer_of, canonical_object}
+use Rattle.ddm_objects.specs.Objects.{Member, outer_of}
 use Rattle.ddm_objects.specs.Members.{members_of}
+use Rattle.ddm_codepoints.specs.CodePoint.{excsat}
+use Rattle.reply_texts.specs.Closing.{last, syntax_reply, limit_reply}
 use Rattle.access_handshake.specs.Excsat.{excsat_answer}
 use Rattle.access_handshake.specs.declared.excsat.ExcsatAnswer.{ExcsatAnswer}
 use Rattle.access_handshake.specs.declared.excsat.ExcsatAnswer.TheVariants.{Granted, TooLow}
@@ -24,7 +26,7 @@ most_chain = 16777216
 -- the parameters of the object, where it is EXCSAT and they are objects one after another: DDM, volume 3, EXCSAT
 abbrev pub excsat_params : Result Member ObjFault → Option (List ℕ)
 excsat_params (Ok object) =
-    if object.code == 0x1041 && is_none (members_of object.bytes).fault then Some object.bytes else None
+    if object.code == excsat && is_none (members_of object.bytes).fault then Some object.bytes else None
 excsat_params (Err fault) = None
 
 -- The parameters of EXCSAT, where the body of a request DSS is exactly that command. DRDA, volume 3, DSS: a request DSS has
@@ -42,14 +44,10 @@ is_request Object = false
 abbrev pub is_lone_request : Dss → Bool
 is_lone_request dss = is_request dss.kind && not dss.chained
 
--- a DSS that stands alone in its chain: DRDA, volume 3, DSS
-abbrev pub lone : Kind → ℕ → List ℕ → Dss
-lone kind corr body = record { kind = kind; chained = false; same = false; go_on = false; corr = corr; body = body }
-
 -- DDM, volume 3: EXCSATRD is reply data and goes in an object DSS, MGRLVLRM is a reply message
 abbrev pub reply_dss : ℕ → ExcsatAnswer → Dss
-reply_dss corr (Granted object) = lone Object corr object
-reply_dss corr (TooLow object) = lone Reply corr object
+reply_dss corr (Granted object) = last Object corr object
+reply_dss corr (TooLow object) = last Reply corr object
 
 -- The bytes that answer a DSS, with its correlation number; None where it is refused. DDM, volume 3, EXCSAT; that all else
 -- is refused is this project's choice.
@@ -65,19 +63,6 @@ syntax_error Short = 0x01
 syntax_error NoD0 = 0x03
 syntax_error Format = 0x04
 syntax_error Continue = 0x05
-
--- DDM, volume 3, SVRCOD: the severity of an error
-abbrev pub severity : List ℕ
-severity = canonical_object 0x1149 (0x00 ∷ 0x08 ∷ [])
-
--- SYNTAXRM with this SYNERRCD, in a reply DSS with this correlation number: DDM, volume 3, SYNTAXRM
-abbrev pub syntax_reply : ℕ → ℕ → List ℕ
-syntax_reply corr code =
-    canonical (lone Reply corr (canonical_object 0x124C (severity ++ canonical_object 0x114A (code ∷ []))))
-
--- RSCLMTRM, in a reply DSS with this correlation number: DDM, volume 3, RSCLMTRM
-abbrev pub limit_reply : ℕ → List ℕ
-limit_reply corr = canonical (lone Reply corr (canonical_object 0x1233 severity))
 
 -- The one refusal of a DSS that is no lone EXCSAT. Its correlation number 0 and its SYNERRCD are this project's choice.
 abbrev pub refusal : List ℕ

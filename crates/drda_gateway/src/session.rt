@@ -3,9 +3,10 @@ ghost use Rattle.drda_gateway.specs.Report.{end_of};
 ghost use Rattle.drda_gateway.specs.Session.{appended, begun, can_take, closed, end_by, fresh, is_saying, need_of, said_more, taken_more};
 ghost use Rattle.drda_gateway.specs.Answer.{fault_reply};
 
-use crate::answer::{NOT_SUPPORTED, answer, limit_reply, syntax_error, syntax_reply};
+use crate::answer::{NOT_SUPPORTED, answer, syntax_error};
 use dss_frame::{FeedFault, Reader, Side, StreamFault};
 use link_ends::{NoMemory, Octets};
+use reply_texts::{limit_dss, syntax_dss};
 use std::alloc::Global;
 use std::marker::Model;
 
@@ -198,7 +199,7 @@ impl Session {
                 }
                 None => self.close(
                     End::Refused { place: placed.at },
-                    &syntax_reply(0, NOT_SUPPORTED),
+                    &syntax_dss(0, NOT_SUPPORTED),
                 )?,
             },
             None => {
@@ -217,9 +218,9 @@ impl Session {
         match fault {
             StreamFault::Frame { at, why, corr } => self.close(
                 End::Refused { place: at },
-                &syntax_reply(corr, syntax_error(why)),
+                &syntax_dss(corr, syntax_error(why)),
             ),
-            StreamFault::TooLong { corr, .. } => self.close(End::Limit, &limit_reply(corr)),
+            StreamFault::TooLong { corr, .. } => self.close(End::Limit, &limit_dss(corr)),
         }
     }
 

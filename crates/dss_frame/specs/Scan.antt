@@ -16,6 +16,11 @@ abbrev pub left_by : Side → ℕ → List Placed → List ℕ → Scan → View
 left_by side limit whole bytes s =
     record { side = side; limit = limit; whole = whole; position = s.position; «open» = drop s.begins bytes; fault = s.fault }
 
+-- the same, where these are the bytes that it left
+abbrev pub kept_by : Side → ℕ → List Placed → List ℕ → Scan → View
+kept_by side limit whole kept s =
+    record { side = side; limit = limit; whole = whole; position = s.position; «open» = kept; fault = s.fault }
+
 pub record Scanned (side : Side) (limit : ℕ) (position : Position) (bytes : List ℕ) (old new : List Placed) (s : Scan) : Type 0 where
   pub within : s.begins ≤ length bytes
   pub reads : left_by side limit new bytes s ≡ read_all (at_position side limit position old bytes)

@@ -11,6 +11,7 @@ mod segments;
 mod spelling_laws;
 mod step;
 mod stream_laws;
+mod unread;
 mod writer;
 
 pub use dss::{Dss, DssList, Kind, Placed, Side};

@@ -5,8 +5,9 @@ ghost use Rattle.dss_frame.specs.Held.{held_of};
 
 use crate::dss::{Placed, Side};
 use crate::fault::{FeedFault, StreamFault};
-use crate::scan::{Scanner, keep_from};
+use crate::scan::Scanner;
 use crate::step::Position;
+use crate::unread::Unread;
 use bytes::BytesMut;
 use std::alloc::Global;
 use std::collections::VecDeque;
@@ -22,7 +23,7 @@ pub struct Reader {
     room: BytesMut,
     whole: VecDeque<Placed>,
     position: Position,
-    open: Vec<u8>,
+    unread: Unread,
     /// How far the segments of the open DSS were walked.
     walked: usize,
     fault: Option<StreamFault>,
@@ -37,9 +38,9 @@ impl Model for Reader {
     ghost use Rattle.dss_frame.specs.Kept.{IsWithin};
     ghost use Rattle.dss_frame.specs.Walk.{walked_to};
 
-    ghost view = { λ r. record { side = r.side; limit = r.limit; whole = r.whole.items; position = r.position; «open» = r.open.items; fault = r.fault } };
+    ghost view = { λ r. record { side = r.side; limit = r.limit; whole = r.whole.items; position = r.position; «open» = r.unread; fault = r.fault } };
 
-    ghost invariant = { λ r. IsWithin r.limit r.whole.items r.position × (r.walked ≡ walked_to r.open.items) };
+    ghost invariant = { λ r. IsWithin r.limit r.whole.items r.position × (r.walked ≡ walked_to r.unread) };
 }
 
 impl Reader {
@@ -54,7 +55,7 @@ impl Reader {
             room: BytesMut::new(alloc),
             whole: VecDeque::new(alloc),
             position: Position::first(limit),
-            open: Vec::new(alloc),
+            unread: Unread::new(alloc),
             walked: 0,
             fault: None,
         }
@@ -75,21 +76,20 @@ impl Reader {
         if let Some(fault) = self.fault {
             return Err(FeedFault::from(fault));
         }
-        let kept = self.open.len();
+        let unread = self.unread.len();
         let whole = self.whole.len();
-        self.open.extend_from_slice(piece)?;
         let scanner = Scanner {
             side: self.side,
             limit: self.limit,
             position: self.position,
             walked: self.walked,
         };
-        let Ok(scan) = scanner.scan(&mut self.room, self.open.as_slice(), &mut self.whole) else {
-            self.open.truncate(kept);
+        let read = scanner.read_piece(&mut self.room, &mut self.unread, piece, &mut self.whole);
+        let Ok(scan) = read else {
+            self.unread.truncate(unread);
             self.whole.truncate(whole);
             return Err(FeedFault::NoMemory);
         };
-        keep_from(&mut self.open, scan.begins);
         self.position = scan.position;
         self.walked = scan.walked;
         self.fault = scan.fault;
@@ -130,7 +130,7 @@ impl Reader {
                 .at()
                 .saturating_sub(self.position.at)
                 .saturating_add(fault.shown_by()),
-            None => self.open.len() as u64,
+            None => self.unread.len() as u64,
         };
         self.position
             .at

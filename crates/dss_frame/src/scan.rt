@@ -1,11 +1,13 @@
 ghost use Rattle.std.specs.Prelude.{◌≡◌, ◌+◌, ◌*◌, ◌≤◌, length, drop, IfOk, OnErr};
-ghost use Rattle.dss_frame.specs.Scan.{Scanned, Extends};
+ghost use Rattle.dss_frame.specs.Reading.{fed};
+ghost use Rattle.dss_frame.specs.Scan.{Scanned, Extends, at_position, kept_by};
 ghost use Rattle.dss_frame.specs.Walk.{walked_to, IsWalked};
 
 use crate::dss::{Placed, Side};
 use crate::fault::StreamFault;
-use crate::segments::dss_of;
+use crate::segments::{FURTHER_HEADER, dss_of, segment_size};
 use crate::step::{Position, Step};
+use crate::unread::Unread;
 use bytes::BytesMut;
 use link_ends::NoMemory;
 use std::collections::VecDeque;
@@ -44,7 +46,7 @@ impl Scanner {
         ensures ok { IfOk result (Scanned self.side self.limit self.position bytes.now whole.old.items whole.new.items) }
         ensures walked { IfOk result (λ scan. scan.walked ≡ walked_to (drop scan.begins bytes.now)) }
         ensures steps { IfOk result (λ scan. 3 * scan.judged + self.walked ≤ scan.begins + scan.walked + 3) }
-        ensures err { OnErr result (Extends whole.old.items whole.new.items) }
+        ensures kept { Extends whole.old.items whole.new.items }
     {
         let mut begins = 0;
         let mut position = self.position;
@@ -74,7 +76,7 @@ impl Scanner {
                     });
                 }
                 Step::Reads { len } => {
-                    let dss = dss_of(room, self.side, &rest[..len])?;
+                    let dss = dss_of(room, self.side, &rest[..len], rest)?;
                     let after = position.after(self.limit, &dss, len);
                     whole.push_back(Placed {
                         at: position.at,
@@ -87,12 +89,59 @@ impl Scanner {
             }
         }
     }
+
+    /// Reads a piece behind the bytes of the DSS that isn't whole, and keeps those of the one that isn't whole then. Only
+    /// what that segment lacks is put behind them: what follows a whole DSS is read where it stands. Where memory runs out
+    /// some DSSs may stand behind `whole`, and some bytes behind those unread.
+    pub(crate) fn read_piece(
+        self,
+        room: &mut BytesMut,
+        unread: &mut Unread,
+        piece: &[u8],
+        whole: &mut VecDeque<Placed>,
+    ) -> Result<Scan, NoMemory>
+        requires { self.walked ≡ walked_to unread.old }
+        ensures ok { IfOk result (λ scan. kept_by self.side self.limit whole.new.items unread.new scan
+            ≡ fed (at_position self.side self.limit self.position whole.old.items unread.old) piece.now) }
+        ensures walked { IfOk result (λ scan. scan.walked ≡ walked_to unread.new) }
+        ensures kept { Extends whole.old.items whole.new.items }
+        ensures unread { OnErr result (Extends unread.old unread.new) }
+    {
+        let lacks = lacking(&unread.as_slice()[self.walked..], piece.len());
+        let (first, rest) = piece.split_at(lacks);
+        unread.push_all(first)?;
+        let scan = self.scan(room, unread.as_slice(), whole)?;
+        if scan.fault.is_some() {
+            unread.keep_from(scan.begins);
+            return Ok(scan);
+        }
+        let scanner = Scanner {
+            side: self.side,
+            limit: self.limit,
+            position: scan.position,
+            walked: scan.walked,
+        };
+        if scan.begins == unread.len() {
+            let next = scanner.scan(room, rest, whole)?;
+            unread.replace(&rest[next.begins..])?;
+            return Ok(next);
+        }
+        unread.push_all(rest)?;
+        let next = scanner.scan(room, &unread.as_slice()[scan.begins..], whole)?;
+        unread.keep_from(scan.begins + next.begins);
+        Ok(next)
+    }
 }
 
-/// Keeps the bytes from `begins` on.
-pub(crate) fn keep_from(bytes: &mut Vec<u8>, begins: usize)
-    requires { begins ≤ length bytes.old.items }
-    ensures { bytes.new.items ≡ drop begins bytes.old.items }
+/// How many bytes a segment lacks that isn't whole, of which these have come, but no more than a piece has; the whole
+/// piece, where its length hasn't come, and nothing where it hasn't begun.
+fn lacking(segment: &[u8], piece: usize) -> usize
+    ensures { result ≤ piece }
 {
-    drop(bytes.drain(..begins));
+    if segment.len() < FURTHER_HEADER {
+        return if segment.is_empty() { 0 } else { piece };
+    }
+    segment_size(segment)
+        .saturating_sub(segment.len())
+        .min(piece)
 }

@@ -1,4 +1,4 @@
-ghost use Rattle.std.specs.Prelude.{◌≡◌, ◌+◌, ◌*◌, [], ◌<◌, ◌≤◌, length, IfOk, OnOk};
+ghost use Rattle.std.specs.Prelude.{◌≡◌, ◌+◌, ◌*◌, [], ◌<◌, ◌≤◌, length, take, IfOk, OnOk};
 ghost use Rattle.dss_frame.specs.Segments.{segment_size, continues, has_bit, kind_of, is_format_of, header_fault, field_offset, segments_extent};
 ghost use Rattle.dss_frame.specs.Segments.{extent_of, dss_of, body_of};
 ghost use Rattle.dss_frame.specs.Walk.{walked_to, IsWalked, EndsBehind};
@@ -60,7 +60,7 @@ pub(crate) struct Walk {
 }
 
 /// How many bytes the segment has that these bytes begin with.
-fn segment_size(bytes: &[u8]) -> usize
+pub(crate) fn segment_size(bytes: &[u8]) -> usize
     requires { 2 ≤ length bytes.now }
     ensures size { result ≡ segment_size bytes.now }
     ensures small { result < 32768 }
@@ -211,10 +211,16 @@ fn walk_on(bytes: &[u8], walked: usize) -> Walk
     }
 }
 
-/// The DSS that these bytes are, all of them. A long body is put into the room.
+/// The DSS that these bytes are, all of them, with which the stream begins. A long body is put into the room.
 #[tactic(auto, unfolding(crate::specs::Segments::dss_of))]
-pub(crate) fn dss_of(room: &mut BytesMut, side: Side, bytes: &[u8]) -> Result<Dss, NoMemory>
-    requires { extent_of side bytes.now ≡ Extent.Ends (length bytes.now) }
+pub(crate) fn dss_of(
+    room: &mut BytesMut,
+    side: Side,
+    bytes: &[u8],
+    stream: &[u8],
+) -> Result<Dss, NoMemory>
+    requires whole { extent_of side bytes.now ≡ Extent.Ends (length bytes.now) }
+    requires begins { bytes.now ≡ take (length bytes.now) stream.now }
     ensures { IfOk result (λ d. d ≡ dss_of bytes.now) }
 {
     let format = bytes[3];
@@ -224,23 +230,27 @@ pub(crate) fn dss_of(room: &mut BytesMut, side: Side, bytes: &[u8]) -> Result<Ds
         same: has_bit(format, SAME),
         go_on: has_bit(format, GO_ON),
         corr: BigEndian::read_u16(&bytes[4..]),
-        body: body(room, bytes)?,
+        body: body(room, bytes, stream)?,
     })
 }
 
-/// What the segments hold that these bytes are, all of them.
-fn body(room: &mut BytesMut, bytes: &[u8]) -> Result<Octets, NoMemory>
+/// What the segments hold that these bytes are, all of them. A short body is copied with what follows it in the stream,
+/// since that is quicker than to copy just as many bytes.
+fn body(room: &mut BytesMut, bytes: &[u8], stream: &[u8]) -> Result<Octets, NoMemory>
     requires first { 6 ≤ segment_size bytes.now }
     requires whole { segments_extent (length bytes.now) 0 bytes.now ≡ Extent.Ends (length bytes.now) }
+    requires begins { bytes.now ≡ take (length bytes.now) stream.now }
     ensures { IfOk result (λ body. body ≡ body_of (length bytes.now) 6 bytes.now) }
 {
     if bytes.len() <= HEADER + SHORT_BODY && !continues(bytes) {
-        return Octets::of(*room.allocator(), &bytes[HEADER..]);
+        let short = bytes.len() - HEADER;
+        return Octets::front_of(*room.allocator(), &stream[HEADER..], short);
     }
     long_body(room, bytes)
 }
 
 /// The same, put together in the room.
+#[inline(never)]
 fn long_body(room: &mut BytesMut, bytes: &[u8]) -> Result<Octets, NoMemory>
     requires first { 6 ≤ segment_size bytes.now }
     requires whole { segments_extent (length bytes.now) 0 bytes.now ≡ Extent.Ends (length bytes.now) }

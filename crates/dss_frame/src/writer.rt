@@ -75,18 +75,18 @@ fn header_bytes(dss: &Dss, len: usize, continues: bool) -> [u8; HEADER]
     bytes
 }
 
-/// Appends the header and a short body at once.
-fn push_short(dss: &Dss, out: &mut Octets) -> Result<(), NoMemory>
-    requires { length dss.now.body ≤ 24 }
+/// Appends the header and a short body at once, which this array has with others behind it.
+fn push_short(dss: &Dss, body: &[u8; SHORT_BODY], out: &mut Octets) -> Result<(), NoMemory>
+    requires short { length dss.now.body ≤ 24 }
+    requires body { take (length dss.now.body) body.now ≡ dss.now.body }
     ensures ok { OnOk result (out.new ≡ out.old ++ canonical dss.now) }
     ensures err { OnErr result (out.new ≡ out.old) }
 {
-    let body = dss.body.as_slice();
-    let len = HEADER + body.len();
+    let len = HEADER + dss.body.len();
     let mut bytes = [0; SHORT_DSS];
     bytes[..HEADER].copy_from_slice(&header_bytes(dss, len, false));
-    bytes[HEADER..len].copy_from_slice(body);
-    out.push_all(&bytes[..len])
+    bytes[HEADER..SHORT_DSS].copy_from_slice(body);
+    out.push_front_of(&bytes, len)
 }
 
 fn push_length(len: usize, continues: bool, out: &mut Octets) -> Result<(), NoMemory>
@@ -122,8 +122,9 @@ pub fn write_dss(dss: &Dss, out: &mut Octets) -> Result<(), NoMemory>
     ensures ok { OnOk result (out.new ≡ out.old ++ canonical dss.now) }
     ensures err { OnErr result (out.new ≡ out.old) }
 {
-    if dss.body.len() <= SHORT_BODY {
-        return push_short(dss, out);
+    match dss.body.as_array() {
+        Some(body) if dss.body.len() <= SHORT_BODY => return push_short(dss, body, out),
+        _ => {}
     }
     let before = out.len();
     let written = push_segments(dss, out);

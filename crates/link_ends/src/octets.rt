@@ -1,4 +1,4 @@
-ghost use Rattle.std.specs.Prelude.{◌≡◌, ◌==◌, ◌++◌, ◌+◌, ◌≤◌, [], length, take, drop, slice_range, IfOk, OnOk, OnErr};
+ghost use Rattle.std.specs.Prelude.{◌≡◌, ◌==◌, ◌++◌, ◌+◌, ◌≤◌, [], length, take, drop, slice_range, IfOk, IfSome, OnOk, OnErr};
 
 use crate::short::{SHORT, Short};
 use bytes::{Bytes, BytesMut};
@@ -65,15 +65,21 @@ impl Octets {
     pub fn of(alloc: Global, bytes: &[u8]) -> Result<Octets, NoMemory>
         ensures { IfOk result (λ octets. octets ≡ bytes.now) }
     {
-        if bytes.len() > SHORT {
-            let bytes = Bytes::copy_from_slice(alloc, bytes)?;
-            return Ok(Octets::from_shared(alloc, bytes));
+        Octets::front_of(alloc, bytes, bytes.len())
+    }
+
+    /// A copy of the first `count` of these bytes.
+    #[inline]
+    pub fn front_of(alloc: Global, bytes: &[u8], count: usize) -> Result<Octets, NoMemory>
+        requires { count ≤ length bytes.now }
+        ensures { IfOk result (λ octets. octets ≡ take count bytes.now) }
+    {
+        if count > SHORT {
+            return shared_copy(alloc, &bytes[..count]);
         }
-        let mut short = Short::new();
-        short.push_all(bytes);
         Ok(Octets {
             alloc,
-            kept: Kept::Inside(short),
+            kept: Kept::Inside(Short::front_of(bytes, count)),
         })
     }
 
@@ -113,6 +119,31 @@ impl Octets {
             }
             _ => {}
         }
+        self.move_and_push(bytes)
+    }
+
+    /// Appends the first `count` of these bytes. Where the list has a buffer of its own, all of them are copied, and those
+    /// behind are given up: for an array of few bytes that is a few moves and no call.
+    #[inline]
+    pub fn push_front_of(&mut self, bytes: &[u8], count: usize) -> Result<(), NoMemory>
+        requires { count ≤ length bytes.now }
+        ensures ok { OnOk result (self.new ≡ self.old ++ take count bytes.now) }
+        ensures err { OnErr result (self.new ≡ self.old) }
+    {
+        if let Kept::Own(buffer) = &mut self.kept {
+            buffer.extend_from_slice(bytes)?;
+            buffer.truncate(buffer.len() - (bytes.len() - count));
+            return Ok(());
+        }
+        self.push_all(&bytes[..count])
+    }
+
+    /// Moves the bytes into a buffer of their own, and appends these.
+    #[inline(never)]
+    fn move_and_push(&mut self, bytes: &[u8]) -> Result<(), NoMemory>
+        ensures ok { OnOk result (self.new ≡ self.old ++ bytes.now) }
+        ensures err { OnErr result (self.new ≡ self.old) }
+    {
         let grown = grown(self.alloc, self.as_slice(), bytes)?;
         self.kept = Kept::Own(grown);
         Ok(())
@@ -172,6 +203,17 @@ impl Octets {
         }
     }
 
+    /// The bytes and others behind them, where they stand in the value itself.
+    #[inline]
+    pub fn as_array(&self) -> Option<&[u8; SHORT]>
+        ensures { IfSome result (λ bytes. take (length self.now) bytes.now ≡ self.now) }
+    {
+        match &self.kept {
+            Kept::Inside(bytes) => Some(bytes.as_array()),
+            _ => None,
+        }
+    }
+
     /// How many bytes there are.
     pub fn len(&self) -> usize
         ensures { result ≡ length self.now }
@@ -203,6 +245,15 @@ impl Octets {
             _ => Octets::of(self.alloc, &self.as_slice()[from..to]),
         }
     }
+}
+
+/// A copy of many bytes, in a buffer that others may share.
+#[inline(never)]
+fn shared_copy(alloc: Global, bytes: &[u8]) -> Result<Octets, NoMemory>
+    ensures { IfOk result (λ octets. octets ≡ bytes.now) }
+{
+    let bytes = Bytes::copy_from_slice(alloc, bytes)?;
+    Ok(Octets::from_shared(alloc, bytes))
 }
 
 /// A buffer with these bytes, and others behind them.

@@ -34,6 +34,23 @@ impl Short {
         }
     }
 
+    /// The first `len` of these bytes. Where there are enough of them, a whole value is copied, whatever `len` is: that is
+    /// a few moves and no call.
+    pub(crate) fn front_of(bytes: &[u8], len: usize) -> Short
+        requires within { len ≤ length bytes.now }
+        requires short { len ≤ SHORT }
+        ensures { result ≡ take len bytes.now }
+    {
+        if bytes.len() < SHORT {
+            let mut short = Short::new();
+            short.push_all(&bytes[..len]);
+            return short;
+        }
+        let mut copy = [0; SHORT];
+        copy.copy_from_slice(&bytes[..SHORT]);
+        Short { bytes: copy, len }
+    }
+
     /// How many bytes there are.
     pub(crate) fn len(&self) -> usize
         ensures len { result ≡ length self.now }
@@ -48,6 +65,14 @@ impl Short {
         ensures bound { length result.now ≤ SHORT }
     {
         &self.bytes[..self.len]
+    }
+
+    /// The value itself: the bytes, and others behind them.
+    pub(crate) fn as_array(&self) -> &[u8; SHORT]
+        ensures bytes { take (length self.now) result.now ≡ self.now }
+        ensures bound { length self.now ≤ SHORT }
+    {
+        &self.bytes
     }
 
     /// Appends these bytes.

@@ -1,16 +1,16 @@
 -- What each change of a pool keeps.
-use Rattle.std.proofs.Common.{◌≡◌, ℕ, ◌+◌, ◌-◌, ◌<◌, ◌≤◌, ◌==◌, Bool, true, false, not, eqb, ltb, nat_lt, cond, if◌then◌else◌, List, [], ◌∷◌, ◌++◌}
+use Rattle.std.proofs.Common.{◌≡◌, ℕ, ◌+◌, ◌<◌, ◌≤◌, ◌==◌, Bool, true, false, not, eqb, nat_lt, cond, if◌then◌else◌, List, [], ◌∷◌, ◌++◌}
 use Rattle.std.proofs.Common.{length, filter}
 use Rattle.std.proofs.Common.{slice_index_or, refl, ap, sym, ◌∙◌, arith}
 use Rattle.std.proofs.Common.{◌&&◌, subst}
 use Rattle.std.proofs.lemmas.Bool.{and_parts}
 use Rattle.std.proofs.lemmas.Bool.Decides.{nat_tests}
 use Rattle.std.proofs.lemmas.List.{length-append}
-use Rattle.std.specs.List.{sum_by, AllByRecursion}
+use Rattle.std.specs.List.{AllByRecursion}
 use Rattle.server_list.specs.Tried.{is_member}
 use Rattle.server_list.specs.Lists.{Listing}
 use Rattle.transport_pool.specs.State.{PoolState, without, is_among, left_by}
-use Rattle.transport_pool.specs.Sound.{times, AreApart, IsSound}
+use Rattle.transport_pool.specs.Sound.{times, IsSound}
 use Rattle.transport_pool.specs.declared.numbers.Numbered.{Numbered}
 use Rattle.transport_pool.proofs.Finding.{has_number, times_append}
 

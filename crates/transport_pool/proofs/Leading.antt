@@ -1,5 +1,5 @@
 -- Journals whose steps lead to a pool.
-use Rattle.std.proofs.Common.{◌≡◌, ℕ, Bool, true, false, nat_lt, cond, List, [], ◌∷◌, ◌++◌, length, refl, ap, sym, ◌∙◌, subst}
+use Rattle.std.proofs.Common.{◌≡◌, true, false, nat_lt, cond, List, [], ◌∷◌, ◌++◌, length, refl, ap, sym}
 use Rattle.transport_pool.specs.State.{PoolState}
 use Rattle.transport_pool.specs.Steps.{Stepped, pool_step}
 use Rattle.transport_pool.specs.Journal.{JournalState, forgotten, with_room, with_entry, most_entries, Leads}

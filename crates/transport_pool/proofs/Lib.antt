@@ -3,3 +3,9 @@ pub mod Keeps
 pub mod Zeros
 pub mod Running
 pub mod Leading
+pub mod Lying
+pub mod Housing
+pub mod Deciding
+pub mod Ordering
+pub mod Housed
+pub mod Tries

@@ -1,13 +1,12 @@
 -- What each step keeps, and so a list of calls.
-use Rattle.std.proofs.Common.{◌≡◌, ℕ, ◌+◌, ◌<◌, ◌≤◌, ◌==◌, ◌&&◌, ◌||◌, Bool, true, false, not, eqb, leb, nat_lt, cond, List, [], ◌∷◌, ◌++◌, length}
-use Rattle.std.proofs.Common.{find, fold, reverse, slice_index_or, Option, Some, None, IfSome, refl, ap, sym, ◌∙◌, subst, arith}
-use Rattle.std.proofs.lemmas.Bool.{and_parts}
+use Rattle.std.proofs.Common.{◌≡◌, ℕ, ◌+◌, ◌<◌, ◌≤◌, ◌==◌, ◌||◌, Bool, true, false, eqb, leb, nat_lt, cond, List, [], ◌∷◌, ◌++◌, length}
+use Rattle.std.proofs.Common.{find, fold, reverse, Option, Some, None, IfSome, refl, ap, sym, ◌∙◌, subst, arith}
 use Rattle.std.proofs.lemmas.Bool.Decides.{nat_tests}
 use Rattle.std.proofs.lemmas.List.{length-append}
 use Rattle.server_list.specs.Tried.{is_member, has_member}
-use Rattle.server_list.specs.Lists.{Listing, no_rows, is_listed, is_listable, with_row}
+use Rattle.server_list.specs.Lists.{Listing, no_rows, is_listable, with_row}
 use Rattle.server_list.specs.Layout.{with_known, known_rows, unless_empty}
-use Rattle.server_list.specs.Choice.{pick, is_best, is_untried}
+use Rattle.server_list.specs.Choice.{pick}
 use Rattle.server_list.specs.declared.list.ServerRow.{ServerRow}
 use Rattle.transport_pool.specs.State.{PoolState, without, is_among, is_waiting, left_by, counts_of}
 use Rattle.transport_pool.specs.Steps.{Stepped, must_wait, after_leave, after_wait, next_transport, idle_of, lent_out, lent_by, lend_step, rested, give_step}

@@ -1,5 +1,5 @@
 -- Counts before anything is counted.
-use Rattle.std.proofs.Common.{◌≡◌, ℕ, zero, suc, ◌≤◌, get_or, replicate, arith}
+use Rattle.std.proofs.Common.{ℕ, zero, suc, ◌≤◌, get_or, replicate, arith}
 
 zeros : (n k : ℕ) → get_or (replicate n 0) k 0 ≤ 0
 zeros zero k = omega arith

@@ -1,5 +1,5 @@
 -- What a pool keeps of plain numbers, each list in a row of fixed size: this project's own.
-use Rattle.std.specs.Prelude.{◌≡◌, ℕ, ◌≤◌, vec_capacity}
+use Rattle.std.specs.Prelude.{◌≤◌, vec_capacity}
 use Rattle.transport_pool.specs.State.{PoolState}
 use Rattle.transport_pool.specs.Sound.{IsSound}
 use Rattle.transport_pool.specs.declared.pool.Pool.TheInside.{Inside}

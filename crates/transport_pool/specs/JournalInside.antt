@@ -1,5 +1,5 @@
 -- What a journal keeps: this project's own.
-use Rattle.std.specs.Prelude.{ℕ, ◌≤◌, length}
+use Rattle.std.specs.Prelude.{◌≤◌, length}
 use Rattle.std.specs.VecDeque.{deque_capacity}
 use Rattle.transport_pool.specs.Journal.{JournalState, most_entries}
 use Rattle.transport_pool.specs.declared.journal.Journal.TheInside.{Inside}

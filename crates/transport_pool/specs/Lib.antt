@@ -3,6 +3,13 @@ pub mod Steps
 pub mod Sound
 pub mod Inside
 pub mod Runs
+pub mod Waiting
 pub mod Counts
 pub mod Journal
 pub mod JournalInside
+pub mod Grants
+pub mod Slots
+pub mod House
+pub mod HouseInside
+pub mod Lends
+pub mod Moves

@@ -1,6 +1,6 @@
 -- What a pool of transports knows, as plain numbers. Pools, transports and their numbers are this project's own; that a
 -- member may be chosen from a server list is DRDA, volume 3, SRVLST.
-use Rattle.std.specs.Prelude.{ℕ, ◌-◌, ◌+◌, Bool, true, false, not, ◌&&◌, ◌||◌, ◌==◌, List, [], ◌∷◌, filter, replicate, slice_set, fold}
+use Rattle.std.specs.Prelude.{ℕ, ◌-◌, ◌+◌, Bool, false, not, ◌&&◌, ◌==◌, List, [], ◌∷◌, filter, replicate, slice_set, fold}
 use Rattle.std.specs.List.{list_any}
 use Rattle.server_list.specs.Lists.{Listing}
 use Rattle.server_list.specs.Choice.{lent_to}

@@ -1,5 +1,5 @@
 -- What each call of a pool answers and changes, as a function of plain numbers: this project's own.
-use Rattle.std.specs.Prelude.{ℕ, ◌+◌, Bool, ◌&&◌, ◌||◌, not, ◌==◌, nat_lt, nat_le, if◌then◌else◌, List, [], ◌∷◌, ◌++◌, length, slice_index_or}
+use Rattle.std.specs.Prelude.{ℕ, ◌+◌, Bool, ◌&&◌, ◌||◌, ◌==◌, nat_lt, nat_le, if◌then◌else◌, List, [], ◌∷◌, ◌++◌, length, slice_index_or}
 use Rattle.std.specs.Prelude.{reverse, find, fold, Option, Some, None, is_some}
 use Rattle.server_list.specs.Tried.{with_member}
 use Rattle.server_list.specs.declared.list.ServerRow.{ServerRow}

@@ -5,3 +5,13 @@ pub mod Commands
 pub mod Rewriting
 pub mod Stripping
 pub mod Registering
+pub mod Bodies
+pub mod Segmented
+pub mod Steps
+pub mod Fronts
+pub mod ReadChains
+pub mod WrittenChains
+pub mod Sound
+pub mod ReadAgain
+pub mod SpelledChains
+pub mod Writable

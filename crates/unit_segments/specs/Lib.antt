@@ -16,3 +16,6 @@ pub mod Accepts
 pub mod Body
 pub mod ChainReader
 pub mod Cut
+pub mod Grammar
+pub mod BadChain
+pub mod Written

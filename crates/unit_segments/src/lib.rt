@@ -7,6 +7,7 @@ mod chain_reader;
 mod command;
 mod fault;
 mod join;
+mod laws;
 mod registers;
 mod release;
 mod reply;
@@ -21,6 +22,12 @@ pub use chain_reader::ChainReader;
 pub use command::{Chain, Command, CommandList};
 pub use fault::ChainFault;
 pub use join::join_replies;
+pub use laws::{
+    access_chain_is_read, asked_segment_is_read, body_fault_is_the_first, bytes_are_one_list,
+    chains_are_one_list, chains_are_read, chains_can_be_written, first_fault_is_told,
+    read_are_chains, register_chain_is_read, segments_are_one_list, segments_are_the_chain,
+    sound_bodies_are_read, told_fault_is_the_first, written_chain_is_read,
+};
 pub use registers::{RegisterFault, RegisterLog};
 pub use release::ask_release;
 pub use segment::{Segment, SegmentList, cut};

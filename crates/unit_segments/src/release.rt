@@ -1,8 +1,7 @@
 ghost use Rattle.std.specs.Prelude.{◌≡◌, ◌≤◌, ◌<◌, ◌^◌, map, length, IfOk};
 ghost use Rattle.std.specs.List.{AllByRecursion};
-ghost use Rattle.unit_segments.specs.Limit.{most_chain_bytes};
 ghost use Rattle.unit_segments.specs.Spelling.{numbered};
-ghost use Rattle.unit_segments.specs.Release.{asked, asked_body, asking, asked_bytes, FitsAChain};
+ghost use Rattle.unit_segments.specs.Release.{asked, asking, asked_bytes, FitsAChain};
 
 use crate::body::{code_of, data_of};
 use crate::command::{Command, CommandList};
@@ -55,23 +54,16 @@ fn asked_command(alloc: Global, command: &Command, number: u16) -> Result<Comman
     let mut asked = share_command(alloc, command)?;
     asked.corr = number;
     if ends_unit(class(command.code)) {
-        asked.body = asked_body(alloc, command.body.as_slice())?;
+        let body = command.body.as_slice();
+        asked.body = rewritten(
+            alloc,
+            code_of(body),
+            data_of(body),
+            Dropped::Asking,
+            &asking(),
+        )?;
     }
     Ok(asked)
-}
-
-/// The body of a command that ends the unit of work, with the gateway's asking.
-fn asked_body(alloc: Global, body: &[u8]) -> Result<Octets, NoMemory>
-    requires { length body.now ≤ most_chain_bytes }
-    ensures { IfOk result (λ asked. asked ≡ asked_body body.now) }
-{
-    rewritten(
-        alloc,
-        code_of(body),
-        data_of(body),
-        Dropped::Asking,
-        &asking(),
-    )
 }
 
 /// Two parameters that ask for release and for the SET statements of the unit.

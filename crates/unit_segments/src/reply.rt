@@ -1,4 +1,4 @@
-ghost use Rattle.std.specs.Prelude.{◌≡◌, ◌≤◌, ◌-◌, length};
+ghost use Rattle.std.specs.Prelude.{◌≡◌};
 ghost use Rattle.std.specs.Option.{option_copied};
 ghost use Rattle.unit_segments.specs.Command.{data_of};
 ghost use Rattle.unit_segments.specs.Strip.{is_object_of, has_params, tells_error, list_of, end_says};
@@ -29,22 +29,14 @@ pub(crate) fn is_object_of(code: u16, reply: &Dss) -> bool
 pub(crate) fn has_params(code: u16, reply: &Dss) -> bool
     ensures { result ≡ has_params code reply.now }
 {
-    is_object_of(code, reply) && find(data(reply), 0).is_ok()
-}
-
-/// The data of a reply's object, none where its body is no object.
-pub(crate) fn data(reply: &Dss) -> &[u8]
-    ensures data { result.now ≡ data_of reply.now.body }
-    ensures size { length result.now ≤ length reply.now.body - 4 }
-{
-    data_of(reply.body.as_slice())
+    is_object_of(code, reply) && find(data_of(reply.body.as_slice()), 0).is_ok()
 }
 
 /// The data of the first parameter of a reply with this code point, where the reply's data are parameters.
 fn parameter(code: u16, reply: &Dss) -> Option<&[u8]>
     ensures { option_copied result ≡ told code (data_of reply.now.body) }
 {
-    match find(data(reply), code) {
+    match find(data_of(reply.body.as_slice()), code) {
         Ok(Some(object)) => Some(object.bytes),
         _ => None,
     }

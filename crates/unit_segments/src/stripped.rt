@@ -6,7 +6,8 @@ ghost use Rattle.unit_segments.specs.Strip.{stripped, end_number, replies_to, is
 ghost use Rattle.unit_segments.specs.Strip.{given_back, given_number, without_lists, FitsAReply};
 ghost use Rattle.ddm_codepoints.specs.CodePoint.{enduowrm};
 
-use crate::reply::{data, grants_release, has_params, is_object_of, list_of, tells_error};
+use crate::body::data_of;
+use crate::reply::{grants_release, has_params, is_object_of, list_of, tells_error};
 use crate::rewrite::{Dropped, rewritten};
 use crate::segment::{Segment, ends_unit};
 use crate::share::share;
@@ -171,7 +172,7 @@ fn place(
     ensures sets { OnOk result (sets.new ≡ sets.old ++ (if is_set then data_of reply.now.body ∷ [] else [])) }
 {
     if is_set {
-        return sets.push(Octets::of(alloc, data(reply))?);
+        return sets.push(Octets::of(alloc, data_of(reply.body.as_slice()))?);
     }
     kept.push(given_back(alloc, segment, reply)?)
 }
@@ -209,11 +210,12 @@ fn without_lists(alloc: Global, reply: &Dss) -> Result<Octets, NoMemory>
     requires { FitsAReply reply.now }
     ensures { IfOk result (λ body. body ≡ (without_lists reply.now).body) }
 {
+    let data = data_of(reply.body.as_slice());
     if has_params(ENDUOWRM, reply) {
-        return rewritten(alloc, ENDUOWRM, data(reply), Dropped::ListsAndRelease, &[]);
+        return rewritten(alloc, ENDUOWRM, data, Dropped::ListsAndRelease, &[]);
     }
     if has_params(ACCRDBRM, reply) {
-        return rewritten(alloc, ACCRDBRM, data(reply), Dropped::Lists, &[]);
+        return rewritten(alloc, ACCRDBRM, data, Dropped::Lists, &[]);
     }
     share(&reply.body)
 }

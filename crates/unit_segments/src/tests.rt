@@ -1,5 +1,5 @@
 use super::*;
-use dss_frame::{Dss, DssList, Kind, Reader, Side};
+use dss_frame::{Dss, DssList, FeedFault, Kind, Reader, Side, Why};
 use link_ends::{Octets, Sequence};
 use std::alloc::Global;
 use std::test::Fail;
@@ -26,156 +26,233 @@ pub(crate) fn read(alloc: Global, bytes: &[u8]) -> Result<(Vec<Chain>, Option<Ch
     Ok((chains, None))
 }
 
-/// Each fault at its place with its number.
+/// What stands before a fault, and the number of the DSS before it in its chain: nothing, a command of the same chain, and
+/// another chain.
+const FRONTS: [(&[u8], u16); 3] = [
+    (&[], 0),
+    (
+        &[0x00, 0x0A, 0xD0, 0x41, 0x00, 0x05, 0x00, 0x04, 0x10, 0x41],
+        5,
+    ),
+    (
+        &[0x00, 0x0A, 0xD0, 0x01, 0x00, 0x05, 0x00, 0x04, 0x10, 0x41],
+        0,
+    ),
+];
+
+/// The bytes behind those in front of them.
+fn behind(alloc: Global, front: &[u8], bytes: &[u8]) -> Result<Vec<u8>, Fail> {
+    let mut all = Vec::new(alloc);
+    all.extend_from_slice(front)?;
+    all.extend_from_slice(bytes)?;
+    Ok(all)
+}
+
+/// Each fault at its place with its number: in the first chain, in the middle of one, and in a second one. A place is
+/// counted from the first byte of the rows' own, and where a row has no number, that of the DSS before it is told.
 #[test]
 fn refuses(rt: HostRuntime) -> Result<(), Fail> {
-    for (bytes, chains, at, err, corr) in [
-        // An object without its four bytes, or with a length below them.
+    let rows: [(&[u8], u64, u8, Option<u16>); 20] = [
+        // An object where a request is due, a request where an object is, and an object with another number.
         (
-            [0x00, 0x08, 0xD0, 0x01, 0x00, 0x01, 0x00, 0x03].as_slice(),
-            0,
-            6,
-            0x07,
-            1,
-        ),
-        (
-            [0x00, 0x0A, 0xD0, 0x01, 0x00, 0x01, 0x00, 0x03, 0x10, 0x41].as_slice(),
-            0,
-            6,
-            0x07,
-            1,
-        ),
-        // An object past its holder, and a byte that is left over.
-        (
-            [0x00, 0x0A, 0xD0, 0x01, 0x00, 0x01, 0x00, 0x05, 0x10, 0x41].as_slice(),
-            0,
-            6,
-            0x08,
-            1,
-        ),
-        (
-            [
-                0x00, 0x0B, 0xD0, 0x01, 0x00, 0x01, 0x00, 0x04, 0x10, 0x41, 0x00,
-            ]
-            .as_slice(),
-            0,
-            10,
-            0x08,
-            1,
-        ),
-        // A form of the length that isn't accepted: outermost, and within the command.
-        (
-            [0x00, 0x0A, 0xD0, 0x01, 0x00, 0x01, 0x80, 0x00, 0x10, 0x41].as_slice(),
-            0,
-            6,
-            0x0C,
-            1,
-        ),
-        (
-            [
-                0x00, 0x0E, 0xD0, 0x01, 0x00, 0x01, 0x00, 0x08, 0x10, 0x41, 0x80, 0x04, 0x11, 0x47,
-            ]
-            .as_slice(),
-            0,
-            10,
-            0x0C,
-            1,
-        ),
-        // ACCSEC without SECMEC, and with one of a byte; ACCRDB without its parameters.
-        (
-            [0x00, 0x0A, 0xD0, 0x01, 0x00, 0x01, 0x00, 0x04, 0x10, 0x6D].as_slice(),
-            0,
-            6,
-            0x0E,
-            1,
-        ),
-        (
-            [
-                0x00, 0x0F, 0xD0, 0x01, 0x00, 0x01, 0x00, 0x09, 0x10, 0x6D, 0x00, 0x05, 0x11, 0xA2,
-                0x03,
-            ]
-            .as_slice(),
-            0,
-            6,
-            0x0E,
-            1,
-        ),
-        (
-            [0x00, 0x0A, 0xD0, 0x01, 0x00, 0x01, 0x00, 0x04, 0x20, 0x01].as_slice(),
-            0,
-            6,
-            0x0E,
-            1,
-        ),
-        // A chain that begins with an object, an object where a request is due, and a request where an object is.
-        (
-            [0x00, 0x0A, 0xD0, 0x03, 0x00, 0x01, 0x00, 0x04, 0x10, 0x41].as_slice(),
-            0,
+            &[0x00, 0x0A, 0xD0, 0x03, 0x00, 0x09, 0x00, 0x04, 0x24, 0x14],
             3,
             0x04,
-            0,
+            None,
         ),
         (
-            [
-                0x00, 0x0A, 0xD0, 0x41, 0x00, 0x01, 0x00, 0x04, 0x10, 0x41, 0x00, 0x0A, 0xD0, 0x03,
-                0x00, 0x02, 0x00, 0x04, 0x10, 0x41,
-            ]
-            .as_slice(),
-            0,
+            &[
+                0x00, 0x0A, 0xD0, 0x51, 0x00, 0x09, 0x00, 0x04, 0x20, 0x0A, 0x00, 0x0A, 0xD0, 0x01,
+                0x00, 0x09, 0x00, 0x04, 0x10, 0x41,
+            ],
             13,
             0x04,
-            1,
+            Some(9),
         ),
         (
-            [
-                0x00, 0x0A, 0xD0, 0x51, 0x00, 0x01, 0x00, 0x04, 0x20, 0x0A, 0x00, 0x0A, 0xD0, 0x01,
-                0x00, 0x01, 0x00, 0x04, 0x10, 0x41,
-            ]
-            .as_slice(),
-            0,
-            13,
-            0x04,
-            1,
-        ),
-        // An object with another number.
-        (
-            [
-                0x00, 0x0A, 0xD0, 0x51, 0x00, 0x01, 0x00, 0x04, 0x20, 0x0A, 0x00, 0x0A, 0xD0, 0x03,
-                0x00, 0x02, 0x00, 0x04, 0x24, 0x14,
-            ]
-            .as_slice(),
-            0,
+            &[
+                0x00, 0x0A, 0xD0, 0x51, 0x00, 0x09, 0x00, 0x04, 0x20, 0x0A, 0x00, 0x0A, 0xD0, 0x03,
+                0x00, 0x08, 0x00, 0x04, 0x24, 0x14,
+            ],
             14,
             0x04,
-            2,
+            Some(8),
         ),
-        // In the middle of a chain, and in a second one.
+        // An object without its four bytes, one with a length below them, and a parameter with such a length.
         (
-            [
-                0x00, 0x0A, 0xD0, 0x41, 0x00, 0x01, 0x00, 0x04, 0x10, 0x41, 0x00, 0x0A, 0xD0, 0x41,
-                0x00, 0x02, 0x00, 0x03, 0x10, 0x41,
-            ]
-            .as_slice(),
-            0,
-            16,
+            &[0x00, 0x08, 0xD0, 0x01, 0x00, 0x09, 0x00, 0x03],
+            6,
             0x07,
-            2,
+            Some(9),
         ),
         (
-            [
-                0x00, 0x0A, 0xD0, 0x01, 0x00, 0x01, 0x00, 0x04, 0x10, 0x41, 0x00, 0x0A, 0xD0, 0x01,
-                0x00, 0x02, 0x00, 0x03, 0x10, 0x41,
-            ]
-            .as_slice(),
-            1,
-            16,
+            &[0x00, 0x0A, 0xD0, 0x01, 0x00, 0x09, 0x00, 0x03, 0x10, 0x41],
+            6,
             0x07,
-            2,
+            Some(9),
         ),
-    ] {
-        let (read, fault) = read(rt.alloc(), bytes)?;
-        assert_eq!(rt; read.len(), chains);
-        assert_eq!(rt; fault, Some(ChainFault::Syntax { at, err, corr }));
+        (
+            &[
+                0x00, 0x0E, 0xD0, 0x01, 0x00, 0x09, 0x00, 0x08, 0x10, 0x41, 0x00, 0x03, 0x11, 0x47,
+            ],
+            10,
+            0x07,
+            Some(9),
+        ),
+        // An object past its holder: outermost, and a parameter of a command of access, and of one that ends a unit.
+        (
+            &[0x00, 0x0A, 0xD0, 0x01, 0x00, 0x09, 0x00, 0x05, 0x10, 0x41],
+            6,
+            0x08,
+            Some(9),
+        ),
+        (
+            &[
+                0x00, 0x0E, 0xD0, 0x01, 0x00, 0x09, 0x00, 0x08, 0x10, 0x41, 0x00, 0x05, 0x11, 0x47,
+            ],
+            10,
+            0x08,
+            Some(9),
+        ),
+        (
+            &[
+                0x00, 0x0E, 0xD0, 0x01, 0x00, 0x09, 0x00, 0x08, 0x20, 0x0E, 0x00, 0x05, 0x11, 0x9F,
+            ],
+            10,
+            0x08,
+            Some(9),
+        ),
+        // A byte that is left over.
+        (
+            &[
+                0x00, 0x0B, 0xD0, 0x01, 0x00, 0x09, 0x00, 0x04, 0x10, 0x41, 0x00,
+            ],
+            10,
+            0x08,
+            Some(9),
+        ),
+        // A form of the length that isn't accepted, one that is for the outermost object alone, and a length above
+        // 33,554,432.
+        (
+            &[0x00, 0x0A, 0xD0, 0x01, 0x00, 0x09, 0x80, 0x00, 0x10, 0x41],
+            6,
+            0x0C,
+            Some(9),
+        ),
+        (
+            &[
+                0x00, 0x0E, 0xD0, 0x01, 0x00, 0x09, 0x00, 0x08, 0x10, 0x41, 0x80, 0x04, 0x11, 0x47,
+            ],
+            10,
+            0x0C,
+            Some(9),
+        ),
+        (
+            &[
+                0x00, 0x0E, 0xD0, 0x01, 0x00, 0x09, 0x80, 0x08, 0x20, 0x0A, 0x02, 0x00, 0x00, 0x01,
+            ],
+            6,
+            0x0C,
+            Some(9),
+        ),
+        // ACCSEC without SECMEC, and with one of a byte.
+        (
+            &[0x00, 0x0A, 0xD0, 0x01, 0x00, 0x09, 0x00, 0x04, 0x10, 0x6D],
+            6,
+            0x0E,
+            Some(9),
+        ),
+        (
+            &[
+                0x00, 0x0F, 0xD0, 0x01, 0x00, 0x09, 0x00, 0x09, 0x10, 0x6D, 0x00, 0x05, 0x11, 0xA2,
+                0x03,
+            ],
+            6,
+            0x0E,
+            Some(9),
+        ),
+        // SECCHK without USRID, without SECMEC, and with one of a byte before one of two, of which the first counts.
+        (
+            &[
+                0x00, 0x10, 0xD0, 0x01, 0x00, 0x09, 0x00, 0x0A, 0x10, 0x6E, 0x00, 0x06, 0x11, 0xA2,
+                0x00, 0x03,
+            ],
+            6,
+            0x0E,
+            Some(9),
+        ),
+        (
+            &[
+                0x00, 0x0E, 0xD0, 0x01, 0x00, 0x09, 0x00, 0x08, 0x10, 0x6E, 0x00, 0x04, 0x11, 0xA0,
+            ],
+            6,
+            0x0E,
+            Some(9),
+        ),
+        (
+            &[
+                0x00, 0x19, 0xD0, 0x01, 0x00, 0x09, 0x00, 0x13, 0x10, 0x6E, 0x00, 0x05, 0x11, 0xA2,
+                0x03, 0x00, 0x06, 0x11, 0xA2, 0x00, 0x03, 0x00, 0x04, 0x11, 0xA0,
+            ],
+            6,
+            0x0E,
+            Some(9),
+        ),
+        // ACCRDB without TYPDEFNAM, and without RDBNAM.
+        (
+            &[
+                0x00, 0x0E, 0xD0, 0x01, 0x00, 0x09, 0x00, 0x08, 0x20, 0x01, 0x00, 0x04, 0x21, 0x10,
+            ],
+            6,
+            0x0E,
+            Some(9),
+        ),
+        (
+            &[
+                0x00, 0x0E, 0xD0, 0x01, 0x00, 0x09, 0x00, 0x08, 0x20, 0x01, 0x00, 0x04, 0x00, 0x2F,
+            ],
+            6,
+            0x0E,
+            Some(9),
+        ),
+    ];
+    for (front, before) in FRONTS {
+        for (bytes, place, err, corr) in rows {
+            let (_, fault) = read(rt.alloc(), behind(rt.alloc(), front, bytes)?.as_slice())?;
+            let at = place + front.len() as u64;
+            let corr = corr.unwrap_or(before);
+            assert_eq!(rt; fault, Some(ChainFault::Syntax { at, err, corr }));
+        }
+    }
+    Ok(())
+}
+
+/// The faults of a frame stand before those of the chain.
+#[test]
+fn refuses_frames(rt: HostRuntime) -> Result<(), Fail> {
+    let rows: [(&[u8], u64, Why, Option<u16>); 7] = [
+        (&[0x00, 0x05], 0, Why::Short, None),
+        (&[0x00, 0x0A, 0xD1], 2, Why::NoD0, None),
+        // A reply, a kind that there isn't, the bit 80, and a DSS that isn't chained to one with the same number.
+        (&[0x00, 0x0A, 0xD0, 0x02], 3, Why::Format, None),
+        (&[0x00, 0x0A, 0xD0, 0x04], 3, Why::Format, None),
+        (&[0x00, 0x0A, 0xD0, 0x81], 3, Why::Format, None),
+        (&[0x00, 0x0A, 0xD0, 0x11], 3, Why::Format, None),
+        (
+            &[0x80, 0x08, 0xD0, 0x01, 0x00, 0x09, 0x00, 0x04, 0x00, 0x02],
+            8,
+            Why::Continue,
+            Some(9),
+        ),
+    ];
+    for (front, before) in FRONTS {
+        for (bytes, place, why, corr) in rows {
+            let all = behind(rt.alloc(), front, bytes)?;
+            let fault = Reader::new(rt.alloc(), Side::Requests, LIMIT).feed(all.as_slice());
+            let at = place + front.len() as u64;
+            let corr = corr.unwrap_or(before);
+            assert_eq!(rt; fault, Err(FeedFault::Frame { at, why, corr }));
+        }
     }
     Ok(())
 }

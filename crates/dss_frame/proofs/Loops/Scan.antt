@@ -1,5 +1,5 @@
 -- The scan over all bytes of the DSSs that have begun, one DSS after another.
-use Rattle.std.proofs.Common.{◌≡◌, ℕ, ◌+◌, ◌-◌, ◌≤◌, Bool, true, false, cond, List, [], ◌∷◌, ◌++◌, length, take, drop, Option, Some, None, refl, sym}
+use Rattle.std.proofs.Common.{◌≡◌, ℕ, ◌+◌, ◌-◌, ◌≤◌, Bool, true, false, cond, List, [], ◌∷◌, ◌++◌, length, take, drop, Option, Some, None, is_some, if◌then◌else◌, refl, sym}
 use Rattle.std.proofs.Common.{ap, subst, ◌∙◌, arith}
 use Rattle.std.specs.Option.{option_map}
 use Rattle.std.proofs.lemmas.List.{length-drop, length-take, drop-drop, drop_all, take_rest}
@@ -16,13 +16,13 @@ use Rattle.dss_frame.specs.declared.scan.Scan.{Scan}
 use Rattle.dss_frame.specs.Segments.{extent_of, dss_of}
 use Rattle.dss_frame.specs.Kept.{IsWithin}
 use Rattle.dss_frame.specs.Fault.{answer_of}
-use Rattle.dss_frame.specs.Reading.{View, fed, Stopped, step_of, position_after, read_on, read_all}
-use Rattle.dss_frame.specs.Scan.{at_position, Scanned}
+use Rattle.dss_frame.specs.Reading.{View, fed, Stopped, step_of, position_after, read_on, read_all, with_bytes}
+use Rattle.dss_frame.specs.Scan.{at_position, kept_by, Scanned}
 use Rattle.link_ends.proofs.Lists.{all_push}
 use Rattle.dss_frame.proofs.OneDss.Judging.{whole_dss}
 use Rattle.dss_frame.proofs.OneDss.Whole.{ends_take, dss_size}
 use Rattle.dss_frame.proofs.Pieces.NextStep.{IsRead, is_read}
-use Rattle.dss_frame.proofs.Pieces.Pieces.{on_waits, all_reads, all_stops, on_ends, fed_stopped, fed_none}
+use Rattle.dss_frame.proofs.Pieces.Pieces.{on_waits, all_reads, all_stops, on_ends, fed_stopped, fed_none, fed-append}
 
 -- ---- reading goes on from there
 
@@ -117,12 +117,6 @@ on_within =
       room = room_within d.chained v.position.room n v.limit h.room;
     })) (λ v fault step h. h)
 
--- what a scan leaves is within the limit, where what it began with was
-pub scanned_within : (side : Side) (limit : ℕ) (position : Position) (bytes : List ℕ) (old new : List Placed) (s : Scan)
-    → Scanned side limit position bytes old new s → IsWithin limit old position → IsWithin limit new s.position
-scanned_within side limit position bytes old new s scanned h =
-    subst (λ (v : View). IsWithin limit v.whole v.position) (sym scanned.reads) (on_within (length bytes) (at_position side limit position old bytes) h)
-
 -- ---- a piece
 
 -- a fault is answered again
@@ -134,10 +128,10 @@ stopped_by (TooLong at corr) old new piece is kept = (is, ap (option_map answer_
 pub stopped_again : (fault : StreamFault) (v : View) (piece : List ℕ) → v.fault ≡ Some fault → Stopped (answer_of fault) v v piece
 stopped_again fault v piece is = stopped_by fault v v piece (sym (fed_stopped v piece fault is)) is
 
--- what a piece leaves, by the scan of all bytes that have begun, where the reader keeps the bytes that it left
+-- what a piece leaves, by the scan of all bytes that have begun, where these are kept that it left
 pub fed_left : (v : View) (piece bytes kept : List ℕ) (new : List Placed) (s : Scan) → v.fault ≡ None → bytes ≡ v.open ++ piece
     → Scanned v.side v.limit v.position bytes v.whole new s → kept ≡ drop s.begins bytes
-    → record { side = v.side; limit = v.limit; whole = new; position = s.position; «open» = kept; fault = s.fault } ≡ fed v piece
+    → kept_by v.side v.limit new kept s ≡ fed v piece
 fed_left v piece bytes kept new s none joined h left =
     ap (λ (xs : List ℕ). record { side = v.side; limit = v.limit; whole = new; position = s.position; «open» = xs; fault = s.fault }) left
     ∙ h.reads
@@ -152,3 +146,38 @@ fed_left v piece bytes kept new s none joined h left =
       fault = o;
     })) (sym none)
     ∙ sym (fed_none v piece none)
+
+fed_after_fault : (v : View) (p : List ℕ) → is_some v.fault ≡ true → fed v p ≡ v
+unfolding fed
+fed_after_fault v p e = ap (λ (b : Bool). if b then v else read_all (with_bytes v p)) e
+
+-- a scan of the first part of a piece stopped at a fault: the rest says nothing any more
+pub stopped_within : (v : View) (first rest piece bytes kept : List ℕ) (new : List Placed) (s : Scan) → v.fault ≡ None
+    → first ++ rest ≡ piece → is_some s.fault ≡ true → bytes ≡ v.open ++ first → Scanned v.side v.limit v.position bytes v.whole new s
+    → kept ≡ drop s.begins bytes → kept_by v.side v.limit new kept s ≡ fed v piece
+stopped_within v first rest piece bytes kept new s none cut stops joined h left =
+    let before = fed_left v first bytes kept new s none joined h left in
+    sym (fed_after_fault (kept_by v.side v.limit new kept s) rest stops)
+    ∙ ap (λ (w : View). fed w rest) before ∙ fed-append v first rest ∙ ap (fed v) cut
+
+pub no_fault : (o : Option StreamFault) → is_some o ≡ false → o ≡ None
+no_fault None e = refl
+no_fault (Some fault) e = absurd (cc)
+
+-- two scans, the second of what the first one left and the rest of the piece
+pub fed_twice : (v : View) (first rest piece bytes after kept : List ℕ) (middle new : List Placed) (s t : Scan) → v.fault ≡ None
+    → first ++ rest ≡ piece → s.fault ≡ None → bytes ≡ v.open ++ first → Scanned v.side v.limit v.position bytes v.whole middle s
+    → after ≡ drop s.begins bytes ++ rest → Scanned v.side v.limit s.position after middle new t → kept ≡ drop t.begins after
+    → kept_by v.side v.limit new kept t ≡ fed v piece
+fed_twice v first rest piece bytes after kept middle new s t none cut goes joined h follows i left =
+    let between : View = kept_by v.side v.limit middle (drop s.begins bytes) s in
+    fed_left between rest after kept new t goes follows i left
+    ∙ ap (λ (w : View). fed w rest) (fed_left v first bytes (drop s.begins bytes) middle s none joined h refl)
+    ∙ fed-append v first rest ∙ ap (fed v) cut
+
+-- what a piece leaves is within the limit, where what it began with was
+pub fed_within : (side : Side) (limit : ℕ) (position : Position) (old new : List Placed) («open» kept piece : List ℕ) (s : Scan)
+    → kept_by side limit new kept s ≡ fed (at_position side limit position old «open») piece → IsWithin limit old position → IsWithin limit new s.position
+fed_within side limit position old new «open» kept piece s e h =
+    let v : View = at_position side limit position old «open» in
+    subst (λ (w : View). IsWithin limit w.whole w.position) (sym (e ∙ fed_none v piece refl)) (on_within (length («open» ++ piece)) (with_bytes v piece) h)

@@ -198,6 +198,9 @@ walked_before bytes more =
       comes_to = subst (λ (n : ℕ). ComesTo (walked_to bytes) (drop n all) (segments_extent (length all) 0 all) (walked_to all)) same p.comes_to;
     }
 
+pub walked_within : (bytes : List ℕ) → walked_to bytes ≤ length bytes
+walked_within bytes = let w = walked_before bytes [] in omega (arith, w.within, length-append bytes [])
+
 -- ---- what the segments hold
 
 -- these bytes, and then what the segments from here on hold, are all of the body

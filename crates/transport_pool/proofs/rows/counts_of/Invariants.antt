@@ -1,4 +1,4 @@
-use Rattle.std.proofs.Common.{◌≡◌, ℕ, ◌≤◌, take, fold, replicate, get_or}
+use Rattle.std.proofs.Common.{◌≡◌, ℕ, ◌≤◌, take, get_or}
 use Rattle.transport_pool.specs.State.{counts_of}
 use Rattle.transport_pool.proofs.rows.counts_of.Given as goal
 

@@ -1,4 +1,4 @@
-use Rattle.std.proofs.Common.{ℕ, ◌+◌, ◌-◌, ◌<◌, ◌≤◌, List, length, take, drop, sym, ap, subst, ◌∙◌, arith}
+use Rattle.std.proofs.Common.{◌≡◌, ℕ, ◌+◌, ◌-◌, ◌<◌, ◌≤◌, List, length, take, drop, sym, ap, subst, ◌∙◌, arith}
 use Rattle.std.proofs.lemmas.List.{take_rest, length-take, length-drop}
 use Rattle.dss_frame.specs.Segments.{dss_of}
 use Rattle.dss_frame.proofs.Loops.Extending.{Extends-append}
@@ -24,12 +24,20 @@ slice_bounds-dss_of-end c =
     ∙ c.next-next.ensures.step) in
     rw (take_rest c.args.bytes.now c.loop-fault.begins, length-take c.in-Reads.len rest) (omega (arith, read.within))
 
-pub dss_of-requires : goal.dss_of-requires
-dss_of-requires c =
+pub dss_of-requires-clause-whole : goal.dss_of-requires-clause-whole
+dss_of-requires-clause-whole c =
     let rest : List ℕ = drop c.loop-fault.begins c.args.bytes.now in
     let read = read_at c.args.self.side c.loop-fault.position c.args.bytes.now c.loop-fault.begins c.in-Reads.len (sym c.in-Reads.is
     ∙ c.next-next.ensures.step) in
     rw (take_rest c.args.bytes.now c.loop-fault.begins) (whole_part c.args.self.side rest c.in-Reads.len read.ends)
+
+pub dss_of-requires-clause-begins : goal.dss_of-requires-clause-begins
+dss_of-requires-clause-begins c =
+    let rest : List ℕ = drop c.loop-fault.begins c.args.bytes.now in
+    let read = read_at c.args.self.side c.loop-fault.position c.args.bytes.now c.loop-fault.begins c.in-Reads.len (sym c.in-Reads.is
+    ∙ c.next-next.ensures.step) in
+    let size : length (take c.in-Reads.len rest) ≡ c.in-Reads.len = omega (arith, length-take c.in-Reads.len rest, read.within) in
+    rw (take_rest c.args.bytes.now c.loop-fault.begins) (ap (λ (n : ℕ). take n rest) (sym size))
 
 pub overflow_add-begins : goal.overflow_add-begins
 overflow_add-begins c =

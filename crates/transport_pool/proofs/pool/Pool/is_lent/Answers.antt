@@ -1,5 +1,4 @@
-use Rattle.std.proofs.Common.{◌≡◌, true, ap, sym, ◌∙◌}
-use Rattle.transport_pool.specs.State.{is_among}
+use Rattle.std.proofs.Common.{sym, ◌∙◌}
 use Rattle.transport_pool.specs.Inside.{state_of}
 use Rattle.transport_pool.proofs.Keeps.{among_member, lent_apart}
 use Rattle.transport_pool.proofs.pool.Pool.is_lent.Goals as goal

@@ -1,4 +1,4 @@
-use Rattle.std.proofs.Common.{sym, arith}
+use Rattle.std.proofs.Common.{arith}
 use Rattle.transport_pool.specs.Inside.{state_of}
 use Rattle.transport_pool.proofs.Keeps.{keeps_rest, keeps_exchange}
 use Rattle.transport_pool.proofs.pool.Pool.rest.Goals as goal

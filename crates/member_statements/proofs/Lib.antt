@@ -1,0 +1,4 @@
+mod Keys
+mod Parts
+mod Read
+mod Spelled

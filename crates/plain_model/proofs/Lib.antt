@@ -1,0 +1,15 @@
+pub mod Puts
+pub mod Segments
+pub mod Replies
+pub mod Accounts
+pub mod Cores
+pub mod Facts
+pub mod Begins
+pub mod Runs
+pub mod Answering
+pub mod Loses
+pub mod RunsLate
+pub mod Ends
+pub mod Keeps
+pub mod Fair
+pub mod Staying

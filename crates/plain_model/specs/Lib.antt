@@ -1,0 +1,12 @@
+pub mod Standing
+pub mod UnitEnd
+pub mod Group
+pub mod Local
+pub mod Core
+pub mod Begun
+pub mod Answered
+pub mod Lost
+pub mod Plain
+pub mod Told
+pub mod InWork
+pub mod Example

@@ -1,0 +1,34 @@
+//! Laws of the definitions. Each function is a law: it does nothing, and what it ensures holds of every value.
+
+ghost use Rattle.std.specs.Prelude.{ℕ, List};
+ghost use Rattle.plain_model.specs.Told.{EachUnitIsFair};
+ghost use Rattle.plain_model.specs.InWork.{LossIsTold, StaysInWork, CanRunAgain, AllAreCounted};
+
+use crate::group::Group;
+
+/// Of each unit of work of each session, whatever happens: it was committed at most once, once where its application was told
+/// committed, and never where it was told rolled back or rerouted.
+pub fn each_unit_is_fair<G: Group>(_group: &G)
+    ensures { (name : List ℕ) → EachUnitIsFair name G.meaning G.is_shared }
+{}
+
+/// That a unit was lost is told where an owed error is told, and where no member is left, and nowhere else.
+pub fn loss_is_told<G: Group>(_group: &G)
+    ensures { LossIsTold G.Unit }
+{}
+
+/// While nothing is owed, a segment stays in work until it is answered or its session ends, also where its conversation is
+/// lost.
+pub fn segments_stay_in_work<G: Group>(_group: &G)
+    ensures { (name : List ℕ) → StaysInWork name G.meaning }
+{}
+
+/// A loss owes nothing where no commit was sent and the unit is neither spoken nor pinned: it runs again.
+pub fn lost_units_can_run_again()
+    ensures { CanRunAgain }
+{}
+
+/// The commits of all units together are the commands that committed.
+pub fn commits_are_counted<G: Group>(_group: &G)
+    ensures { (name : List ℕ) → AllAreCounted name G.meaning }
+{}
