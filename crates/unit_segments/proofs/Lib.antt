@@ -1,6 +1,10 @@
 pub mod Cutting
 pub mod Reading
 pub mod Written
+pub mod Commands
+pub mod Rewriting
+pub mod Stripping
+pub mod Registering
 pub mod Bodies
 pub mod Segmented
 pub mod Steps

@@ -5,8 +5,12 @@ pub mod Segment
 pub mod Spelling
 pub mod Release
 pub mod Strip
+pub mod Dropped
+pub mod Told
 pub mod Statement
+pub mod SeenStatement
 pub mod Registers
+pub mod Kept
 pub mod Handshake
 pub mod Accepts
 pub mod Body

@@ -1,4 +1,5 @@
--- How many commands and bytes a chain of requests may have. No standard says: it is this project's choice.
+-- How many commands and bytes a chain of requests may have, and how many bytes the body of a reply. No standard says: it is
+-- this project's choice.
 use Rattle.std.specs.Prelude.{ℕ}
 
 abbrev pub most_commands : ℕ
@@ -6,3 +7,6 @@ most_commands = 4096
 
 abbrev pub most_chain_bytes : ℕ
 most_chain_bytes = 16777216
+
+abbrev pub most_reply_body : ℕ
+most_reply_body = 33554426

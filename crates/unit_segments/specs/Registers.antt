@@ -1,15 +1,15 @@
 -- The log of the special registers that a session has set: DRDA, volume 3, EXCSQLSET: the SET statements that give another
 -- server the same registers. That a register is known by the text before the first equals sign is this project's own.
-use Rattle.std.specs.Prelude.{ℕ, ◌==◌, not, ◌&&◌, Bool, nat_le, nat_lt, if◌then◌else◌, List, [], ◌∷◌, ◌++◌, length, map, bytes_eq}
+use Rattle.std.specs.Prelude.{◌≡◌, ℕ, ◌==◌, not, ◌&&◌, Bool, nat_le, nat_lt, if◌then◌else◌, List, [], ◌∷◌, ◌++◌, length, map, bytes_eq}
 use Rattle.std.specs.Prelude.{Option, Some, None, Result, Ok, Err, false}
-use Rattle.std.specs.List.{list_any}
+use Rattle.std.specs.List.{list_any, before_first}
 use Rattle.ddm_objects.specs.Objects.{canonical_object}
 use Rattle.ddm_codepoints.specs.declared.typdef.TypDef.{TypDef}
 use Rattle.ddm_codepoints.specs.declared.typdef.TypDef.TheVariants.{Sql370, SqlAsc, SqlX86}
 use Rattle.ddm_codepoints.specs.CodePoint.{excsqlset, sqlstt}
 use Rattle.unit_segments.specs.declared.command.Command.{Command}
 use Rattle.unit_segments.specs.declared.registers.RegisterFault.{RegisterFault}
-use Rattle.unit_segments.specs.declared.registers.RegisterFault.TheVariants.{TooMany, TooLong}
+use Rattle.unit_segments.specs.declared.registers.RegisterFault.TheVariants.{TooMany, TooLong, NoMemory}
 use Rattle.unit_segments.specs.Statement.{Statement, statement_of}
 use Rattle.unit_segments.specs.Spelling.{chain_bytes}
 
@@ -39,23 +39,18 @@ equals_sign Sql370 = 0x7E
 equals_sign SqlAsc = 0x3D
 equals_sign SqlX86 = 0x3D
 
--- the bytes before the first of these, or all of them
-abbrev pub before : ℕ → List ℕ → List ℕ
-before sign [] = []
-before sign (byte ∷ bytes) = if byte == sign then [] else byte ∷ before sign bytes
-
 -- which register a statement sets: the bytes before its first equals sign, or all where there is none
 abbrev pub key_of : TypDef → List ℕ → List ℕ
-key_of typ bytes = before (equals_sign typ) (set_of bytes).text
+key_of typ bytes = before_first (λ byte. byte == equals_sign typ) (set_of bytes).text
 
 abbrev pub has_key : List ℕ → List Register → Bool
-has_key key log = list_any (λ register. bytes_eq register.key key) log
+has_key key log = list_any (λ register. bytes_eq key register.key) log
 
 -- a register that is there keeps its place, and any other comes last
 abbrev pub with_register : Register → List Register → List Register
 with_register register log =
     if has_key register.key log
-    then map (λ other. if bytes_eq other.key register.key then register else other) log
+    then map (λ other. if bytes_eq register.key other.key then register else other) log
     else log ++ register ∷ []
 
 -- The log with one more SET statement. A text that is too long comes before a register too many.
@@ -64,6 +59,12 @@ with_set typ log bytes =
     if nat_lt most_text (set_of bytes).size then Err TooLong
     else (if nat_le most_registers (length log) && not (has_key (key_of typ bytes) log) then Err TooMany
     else Ok (with_register (record { key = key_of typ bytes; statement = bytes }) log))
+
+-- A refusal is what is stated; want of memory is free.
+abbrev pub IsRefusal : RegisterFault → Result (List Register) RegisterFault → Type 0
+IsRefusal NoMemory stated = Unit {0}
+IsRefusal TooMany stated = stated ≡ Err TooMany
+IsRefusal TooLong stated = stated ≡ Err TooLong
 
 -- a log after some SET statements, and what was wrong with the first that it couldn't take
 pub record AfterSets : Type 0 where

@@ -1,6 +1,6 @@
 -- Asking a member for release at the end of a unit of work: DRDA, volume 3, RDBCMM, RDBRLLBCK, RLSCONV, RTNSETSTT. That both
 -- are asked of both commands is this project's own.
-use Rattle.std.specs.Prelude.{ℕ, zero, suc, ◌-◌, ◌==◌, Bool, ◌||◌, if◌then◌else◌, List, [], ◌∷◌, ◌++◌, map, length, take}
+use Rattle.std.specs.Prelude.{ℕ, zero, suc, ◌-◌, ◌≤◌, ◌==◌, Bool, ◌||◌, if◌then◌else◌, List, [], ◌∷◌, ◌++◌, map, length, take}
 use Rattle.std.specs.Prelude.{Result, Ok, Err}
 use Rattle.ddm_objects.specs.declared.fault.ObjFault.{ObjFault}
 use Rattle.ddm_objects.specs.Objects.{Found, object_at, canonical_object}
@@ -8,6 +8,7 @@ use Rattle.ddm_codepoints.specs.CodeClass.{class_of}
 use Rattle.ddm_codepoints.specs.CodePoint.{rlsconv, rtnsetstt}
 use Rattle.ddm_codepoints.specs.Value.{release, return_sets}
 use Rattle.unit_segments.specs.declared.command.Command.{Command}
+use Rattle.unit_segments.specs.Limit.{most_chain_bytes}
 use Rattle.unit_segments.specs.Command.{ends_unit, code_of, data_of}
 use Rattle.unit_segments.specs.Spelling.{numbered, chain_bytes}
 
@@ -47,6 +48,10 @@ asked_body body = canonical_object (code_of body) (kept_members is_asking (data_
 -- A command as a member gets it: one that ends a unit asks for release, every other one stays.
 abbrev pub asked : Command → Command
 asked command = if ends_unit (class_of command.code) then record command { body = asked_body command.body } else command
+
+-- its body is no longer than a chain may be
+abbrev pub FitsAChain : Command → Type 0
+FitsAChain command = length command.body ≤ most_chain_bytes
 
 -- a segment as a member gets it, numbered from 1
 unfoldable pub asked_bytes : List Command → List ℕ

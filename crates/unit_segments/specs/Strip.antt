@@ -1,6 +1,6 @@
 -- What a member's replies to a segment say, and what of them an application gets. DRDA, volume 3, ENDUOWRM, ACCRDBRM, SRVLST,
 -- RLSCONV, SQLCARD, SQLSTT. A member's replies have the numbers of the segment's commands, counted from 1.
-use Rattle.std.specs.Prelude.{ℕ, ◌+◌, ◌-◌, ◌==◌, Bool, true, false, not, ◌&&◌, ◌||◌, if◌then◌else◌, List, [], ◌∷◌, map}
+use Rattle.std.specs.Prelude.{ℕ, ◌+◌, ◌-◌, ◌≤◌, length, ◌==◌, Bool, true, false, not, ◌&&◌, ◌||◌, if◌then◌else◌, List, [], ◌∷◌, map}
 use Rattle.std.specs.Prelude.{filter, find, nat_le, slice_get, Option, Some, None, is_some, is_none, option_map, bytes_eq}
 use Rattle.std.specs.List.{list_any}
 use Rattle.byteorder.specs.Endian.{big_number}
@@ -15,6 +15,7 @@ use Rattle.ddm_codepoints.specs.Value.{error, committed, release}
 use Rattle.unit_segments.specs.declared.command.Command.{Command}
 use Rattle.unit_segments.specs.declared.stripped.Stripped.{Stripped}
 use Rattle.unit_segments.specs.Command.{ends_unit, code_of, data_of, parameter, has_two_bytes}
+use Rattle.unit_segments.specs.Limit.{most_reply_body}
 use Rattle.unit_segments.specs.Release.{kept_members}
 
 -- ---- one reply
@@ -87,12 +88,16 @@ pub record Marked : Type 0 where
   pub reply : Dss
   pub is_set : Bool
 
+-- it is a reply to the command with this number, and its body such an object
+abbrev pub answers : ℕ → ℕ → Dss → Bool
+answers number code d = d.corr == number && is_object_of code d
+
 -- A SET statement that was asked for is a SQLSTT behind the first SQLCARD of the replies to the command with this number.
 abbrev pub marked_from : ℕ → Bool → List Dss → List Marked
 marked_from number after_card [] = []
 marked_from number after_card (d ∷ replies) =
-    record { reply = d; is_set = after_card && (d.corr == number && is_object_of sqlstt d) }
-    ∷ marked_from number (after_card || (d.corr == number && is_object_of sqlcard d)) replies
+    record { reply = d; is_set = after_card && answers number sqlstt d }
+    ∷ marked_from number (after_card || answers number sqlcard d) replies
 
 abbrev pub marked : List Command → List Dss → List Marked
 marked segment replies = marked_from (end_number segment) false replies
@@ -159,6 +164,10 @@ stops_at (Some command) = not command.go_on
 -- an error is told of a command after which the chain doesn't go on then: DRDA, volume 3, DSS
 abbrev pub stops : List Command → List Dss → Bool
 stops segment replies = list_any (λ d. tells_error d && stops_at (slice_get segment (d.corr - 1))) replies
+
+-- its body is no longer than a reply's may be: the greatest size of a chain of replies, without a header
+abbrev pub FitsAReply : Dss → Type 0
+FitsAReply d = length d.body ≤ most_reply_body
 
 unfoldable pub stripped : List Command → List Dss → Stripped
 stripped segment replies = record {

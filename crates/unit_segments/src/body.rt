@@ -1,6 +1,6 @@
-ghost use Rattle.std.specs.Prelude.{◌≡◌, option_map};
+ghost use Rattle.std.specs.Prelude.{◌≡◌, ◌≤◌, ◌-◌, length, option_map};
 ghost use Rattle.ddm_objects.specs.Members.{IsMembers, members_of};
-ghost use Rattle.unit_segments.specs.Command.{code_of, body_fault, params_fault, has_needed, has, has_two_bytes, parameter, is_looked_into, object_error};
+ghost use Rattle.unit_segments.specs.Command.{code_of, data_of, body_fault, params_fault, has_needed, has, has_two_bytes, parameter, is_looked_into, object_error};
 ghost use Rattle.ddm_codepoints.specs.CodePoint.{secmec};
 ghost use Rattle.unit_segments.specs.Body.{seen_fault, seen_object_fault};
 
@@ -27,6 +27,17 @@ pub(crate) fn code_of(body: &[u8]) -> u16
     match outer(body) {
         Ok(object) => object.code,
         Err(_) => 0,
+    }
+}
+
+/// The data of the object that a body is, none where it is no object.
+pub(crate) fn data_of(body: &[u8]) -> &[u8]
+    ensures data { result.now ≡ data_of body.now }
+    ensures size { length result.now ≤ length body.now - 4 }
+{
+    match outer(body) {
+        Ok(object) => object.bytes,
+        Err(_) => &[],
     }
 }
 

@@ -9,9 +9,14 @@ mod fault;
 mod join;
 mod laws;
 mod registers;
+mod release;
+mod reply;
+mod rewrite;
 mod segment;
 mod share;
+mod statement;
 mod stripped;
+mod write;
 
 pub use chain_reader::ChainReader;
 pub use command::{Chain, Command, CommandList};
@@ -23,9 +28,13 @@ pub use laws::{
     read_are_chains, register_chain_is_read, segments_are_one_list, segments_are_the_chain,
     sound_bodies_are_read, told_fault_is_the_first, written_chain_is_read,
 };
-pub use registers::RegisterFault;
+pub use registers::{RegisterFault, RegisterLog};
+pub use release::ask_release;
 pub use segment::{Segment, SegmentList, cut};
-pub use stripped::Stripped;
+pub use stripped::{Stripped, strip};
+pub use write::write_chain;
 
+#[cfg(test)]
+mod reply_tests;
 #[cfg(test)]
 mod tests;

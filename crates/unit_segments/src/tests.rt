@@ -8,7 +8,7 @@ use std::test::Fail;
 const LIMIT: u64 = 16_777_216;
 
 /// The chains that bytes are read as, how many of them at most 255, and the fault after them.
-fn read(alloc: Global, bytes: &[u8]) -> Result<(Vec<Chain>, Option<ChainFault>), Fail> {
+pub(crate) fn read(alloc: Global, bytes: &[u8]) -> Result<(Vec<Chain>, Option<ChainFault>), Fail> {
     let mut frames = Reader::new(alloc, Side::Requests, LIMIT);
     frames.feed(bytes)?;
     let mut reader = ChainReader::new(alloc);
