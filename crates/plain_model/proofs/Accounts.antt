@@ -1,5 +1,6 @@
 -- An account of one session: how often each of its units was committed, and what was told of it first; and what it keeps.
-use Rattle.std.proofs.Common.{◌≡◌, ◌≢◌, ◌⊎◌, inl, inr, ℕ, suc, pred, ◌≤◌, ◌<◌, Bool, true, false, Option, Some, None, ap, sym, subst, ◌∙◌, le_refl, arith, true≢false}
+use Rattle.std.proofs.Common.{◌≡◌, ◌≢◌, ◌⊎◌, inl, inr, ℕ, suc, pred, ◌≤◌, ◌<◌, Bool, true, false, Option, Some, None, ap, sym, subst, ◌∙◌, le_refl}
+use Rattle.std.proofs.Common.{arith, true≢false}
 use Rattle.plain_model.specs.Core.{Owed, Nothing, Rerouted, has_commit}
 use Rattle.plain_model.specs.Plain.{InFlight, put}
 use Rattle.plain_model.specs.Told.{Outcome, Committed, RolledBack, ToldRerouted, ToldUnknown, Telling, first_of}
@@ -78,7 +79,8 @@ rerouted_nothing a b = cc
 
 -- ---- a commit is counted
 
-pub books_more : {U : Type 0} (unit : ℕ) (owed : Owed) (bereft : Bool) (flight flight2 : ℕ → InFlight U) (l : Account) (n : ℕ) → Books unit owed bereft flight l
+pub books_more : {U : Type 0} (unit : ℕ) (owed : Owed) (bereft : Bool) (flight flight2 : ℕ → InFlight U) (l : Account) (n : ℕ)
+    → Books unit owed bereft flight l
     → n ≤ unit → l.commits n ≡ 0 → IsOpen (l.told n) → (owed ≡ Rerouted → n ≡ pred unit → ⊥)
     → ((k : ℕ) → has_commit (flight2 k).commands ≡ true → (k ≢ n) × (has_commit (flight k).commands ≡ true)) → ((k : ℕ) → IsSegment (flight2 k).commands)
     → Books unit owed bereft flight2 (more n l)
@@ -107,13 +109,15 @@ told_now l n v e = put_same l.told n (first_of (l.told n) (Some v)) ∙ ap (λ z
 told_other : (l : Account) (n : ℕ) (v : Outcome) (k : ℕ) → k ≢ n → (tell n v l).told k ≡ l.told k
 told_other l n v k ne = put_other l.told n (first_of (l.told n) (Some v)) k ne
 
-tell_fits : (l : Account) (n : ℕ) (v : Outcome) → l.told n ≡ None → Fits (Some v) (l.commits n) → ((k : ℕ) → Fits (l.told k) (l.commits k)) → (k : ℕ) → Fits ((tell n v l).told k) (l.commits k)
+tell_fits : (l : Account) (n : ℕ) (v : Outcome) → l.told n ≡ None → Fits (Some v) (l.commits n) → ((k : ℕ) → Fits (l.told k) (l.commits k))
+    → (k : ℕ) → Fits ((tell n v l).told k) (l.commits k)
 tell_fits l n v e here there k = by_equal k n
     (λ ek. subst (λ z. Fits ((tell n v l).told z) (l.commits z)) (sym ek) (subst (λ z. Fits z (l.commits n)) (sym (told_now l n v e)) here))
     (λ ne. subst (λ z. Fits z (l.commits k)) (sym (told_other l n v k ne)) (there k))
 
 -- the unit in work has ended, and that is told
-pub books_ended : {U : Type 0} (unit : ℕ) (owed : Owed) (bereft : Bool) (flight : ℕ → InFlight U) (l : Account) (v : Outcome) → Books unit owed bereft flight l → bereft ≡ false → owed ≡ Nothing → Fits (Some v) (l.commits unit)
+pub books_ended : {U : Type 0} (unit : ℕ) (owed : Owed) (bereft : Bool) (flight : ℕ → InFlight U) (l : Account) (v : Outcome)
+    → Books unit owed bereft flight l → bereft ≡ false → owed ≡ Nothing → Fits (Some v) (l.commits unit)
     → Books (suc unit) owed bereft flight (tell unit v l)
 books_ended unit owed bereft flight l v b live o fits =
     let none = b.untold live unit (le_refl unit) in
@@ -135,7 +139,8 @@ books_ended unit owed bereft flight l v b live o fits =
     }
 
 -- a word on a unit of which nothing was told
-pub books_told : {U : Type 0} (unit : ℕ) (o o2 : Owed) (bereft bereft2 : Bool) (flight : ℕ → InFlight U) (l : Account) (n : ℕ) (v : Outcome) → Books unit o bereft flight l
+pub books_told : {U : Type 0} (unit : ℕ) (o o2 : Owed) (bereft bereft2 : Bool) (flight : ℕ → InFlight U) (l : Account) (n : ℕ) (v : Outcome)
+    → Books unit o bereft flight l
     → l.told n ≡ None → Fits (Some v) (l.commits n) → ((k : ℕ) → has_commit (flight k).commands ≡ true → k ≡ n → IsOpen (Some v))
     → (o2 ≡ Rerouted → o ≡ Rerouted) → (bereft2 ≡ false → (n < unit) × (bereft ≡ false) × (o2 ≡ Nothing))
     → Books unit o2 bereft2 flight (tell n v l)
@@ -160,7 +165,8 @@ books_told unit o o2 bereft bereft2 flight l n v b none fits opens back live = r
 
 -- ---- an error becomes owed
 
-pub books_owed : {U : Type 0} (unit : ℕ) (owed o : Owed) (bereft : Bool) (flight flight2 : ℕ → InFlight U) (l : Account) → Books unit owed bereft flight l → ((o ≡ Rerouted → ⊥) → bereft ≡ false)
+pub books_owed : {U : Type 0} (unit : ℕ) (owed o : Owed) (bereft : Bool) (flight flight2 : ℕ → InFlight U) (l : Account)
+    → Books unit owed bereft flight l → ((o ≡ Rerouted → ⊥) → bereft ≡ false)
     → (o ≡ Rerouted → l.commits unit ≡ 0)
     → ((k : ℕ) → has_commit (flight2 k).commands ≡ true → (has_commit (flight k).commands ≡ true) ⊎ ((k ≡ unit) × (l.commits unit ≡ 0) × (o ≡ Rerouted → ⊥)))
     → ((k : ℕ) → IsSegment (flight2 k).commands)
@@ -178,7 +184,12 @@ books_owed unit owed o bereft flight flight2 l b live none kept shape = record {
 }
   where
     go : (k : ℕ) → (has_commit (flight k).commands ≡ true) ⊎ ((k ≡ unit) × (l.commits unit ≡ 0) × (o ≡ Rerouted → ⊥)) → Pending (suc unit) o l k
-    go k (inl h) = let p = b.pending k h in let lt = p.below in record { below = omega arith; none = p.none; open_still = p.open_still; not_before = λ e eq. omega arith }
+    go k (inl h) = let p = b.pending k h in let lt = p.below in record {
+      below = omega arith;
+      none = p.none;
+      open_still = p.open_still;
+      not_before = λ e eq. omega arith;
+    }
     go k (inr h) = record {
       below = let e = h.0 in omega arith;
       none = ap l.commits h.0 ∙ h.1;
@@ -189,7 +200,8 @@ books_owed unit owed o bereft flight flight2 l b live none kept shape = record {
 -- ---- the end
 
 -- no member was left, before the database was accessed: nothing is told
-pub books_bereft : {U : Type 0} (unit : ℕ) (o : Owed) (bereft : Bool) (flight : ℕ → InFlight U) (l : Account) → Books unit o bereft flight l → Books unit o true flight l
+pub books_bereft : {U : Type 0} (unit : ℕ) (o : Owed) (bereft : Bool) (flight : ℕ → InFlight U) (l : Account) → Books unit o bereft flight l
+    → Books unit o true flight l
 books_bereft unit o bereft flight l b = record {
   positive = b.positive;
   above = b.above;

@@ -1,5 +1,6 @@
 -- The segment in work is answered: what a session keeps.
-use Rattle.std.proofs.Common.{◌≡◌, ℕ, suc, Bool, true, false, if◌then◌else◌, List, [], Option, Some, None, is_some, ap, sym, refl, subst, ◌∙◌, le_refl, true≢false}
+use Rattle.std.proofs.Common.{◌≡◌, ℕ, suc, Bool, true, false, if◌then◌else◌, List, [], Option, Some, None, is_some, ap, sym, refl, subst, ◌∙◌}
+use Rattle.std.proofs.Common.{le_refl, true≢false}
 use Rattle.dss_frame.specs.declared.dss.Dss.{Dss}
 use Rattle.ddm_codepoints.specs.CodePoint.{uowdsp}
 use Rattle.ddm_codepoints.specs.Value.{committed}
@@ -49,7 +50,8 @@ answer_keeps {U} name q l f sending = go (has_ended (segment_of q) q.part) refl
     unit_if : (b : Bool) → has_ended (segment_of q) q.part ≡ b → j.unit ≡ (if b then suc q.core.unit else q.core.unit)
     unit_if b e = a.unit ∙ ap (λ v. if v then suc q.core.unit else q.core.unit) (seen_ended (segment_of q) q.part q.asking ∙ e)
 
-    go : (b : Bool) → has_ended (segment_of q) q.part ≡ b → FactOf j 0 [] q.in_flight (note (if has_ended (segment_of q) q.part then telling q.core.unit outcome else None) l)
+    go : (b : Bool) → has_ended (segment_of q) q.part ≡ b → FactOf j 0 [] q.in_flight (note (if has_ended
+        (segment_of q) q.part then telling q.core.unit outcome else None) l)
     go true e = subst (λ b. FactOf j 0 [] q.in_flight (note (if b then telling q.core.unit outcome else None) l)) (sym e) (record {
       books = books_with (suc q.core.unit) j.unit q.core.owed j.owed (is_bereft q.core.end) (is_bereft j.end) q.in_flight (tell q.core.unit outcome l)
           (unit_if true e) a.owed (bereft ∙ sym live)
@@ -60,5 +62,6 @@ answer_keeps {U} name q l f sending = go (has_ended (segment_of q) q.part) refl
       working = ap l.commits (unit_if true e) ∙ f.books.above (suc q.core.unit) (le_refl (suc q.core.unit));
     })
     go false e = subst (λ b. FactOf j 0 [] q.in_flight (note (if b then telling q.core.unit outcome else None) l)) (sym e)
-        (same_unit q.core j q.ran q.part q.in_flight l f (unit_if false e) a.owed (bereft ∙ sym live) (λ ne. a.sent) (λ t. a.sent) (a.segments f.works.cut) (a.again f.works.again f.works.cut)
+        (same_unit q.core j q.ran q.part q.in_flight l f (unit_if false e) a.owed (bereft
+        ∙ sym live) (λ ne. a.sent) (λ t. a.sent) (a.segments f.works.cut) (a.again f.works.again f.works.cut)
         (ap (λ b. if b then 1 else 0) (not_ended (end_message (segment_of q) q.part) e)))

@@ -14,11 +14,13 @@ use Rattle.plain_model.proofs.Cores.{is_bereft, settled_finished}
 use Rattle.plain_model.proofs.Facts.{FactOf, won, same_unit}
 
 -- no segment is in work: nothing is won
-pub idle_won : {U : Type 0} (k : Core) (ran : ℕ) (part : List Dss) (flight : ℕ → InFlight U) (l : Account) → FactOf k ran part flight l → k.segments ≡ [] → won (first k.segments) part ≡ 0
+pub idle_won : {U : Type 0} (k : Core) (ran : ℕ) (part : List Dss) (flight : ℕ → InFlight U) (l : Account) → FactOf k ran part flight l
+    → k.segments ≡ [] → won (first k.segments) part ≡ 0
 idle_won k ran part flight l f e =
     ap (λ gs. won (first gs) part) e ∙ ap (λ replies. if committed_in replies then 1 else 0) (none_zero ran part f.works.up_to)
 
-pub begin_keeps : {U : Type 0} (name : List ℕ) (reading : Reading) (k : Core) (ran : ℕ) (part : List Dss) (flight : ℕ → InFlight U) (l : Account) → FactOf k ran part flight l
+pub begin_keeps : {U : Type 0} (name : List ℕ) (reading : Reading) (k : Core) (ran : ℕ) (part : List Dss) (flight : ℕ → InFlight U) (l : Account)
+    → FactOf k ran part flight l
     → k.end ≡ None → k.segments ≡ [] → IsReading reading → FactOf (begun name reading k).core 0 [] flight l
 unfolding begun
 begin_keeps name (Chain commands) k ran part flight l f live idle is =
@@ -32,6 +34,8 @@ begin_keeps name (Chain commands) k ran part flight l f live idle is =
     (subst (AllByRecursion IsCommand) (sym same.again) f.works.again)
     (idle_won k ran part flight l f idle)
 begin_keeps name (Fault place error number) k ran part flight l f live idle is =
-    same_unit k (begun name (Fault place error number) k).core ran part flight l f refl refl (sym (ap is_bereft live)) f.works.owed_sent (λ e. absurd (true≢false (sym e))) f.works.cut f.works.again (idle_won k ran part flight l f idle)
+    same_unit k (begun name (Fault place error number) k).core ran part flight l f refl refl (sym (ap is_bereft live)) f.works.owed_sent
+    (λ e. absurd (true≢false (sym e))) f.works.cut f.works.again (idle_won k ran part flight l f idle)
 begin_keeps name (TooLong number) k ran part flight l f live idle is =
-    same_unit k (begun name (TooLong number) k).core ran part flight l f refl refl (sym (ap is_bereft live)) f.works.owed_sent (λ e. absurd (true≢false (sym e))) f.works.cut f.works.again (idle_won k ran part flight l f idle)
+    same_unit k (begun name (TooLong number) k).core ran part flight l f refl refl (sym (ap is_bereft live)) f.works.owed_sent (λ e. absurd
+    (true≢false (sym e))) f.works.cut f.works.again (idle_won k ran part flight l f idle)

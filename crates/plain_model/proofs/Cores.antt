@@ -7,7 +7,8 @@ use Rattle.unit_segments.specs.declared.stripped.Stripped.{Stripped}
 use Rattle.unit_segments.specs.declared.registers.RegisterFault.{RegisterFault}
 use Rattle.plain_model.specs.Group.{IsCommand}
 use Rattle.plain_model.specs.Local.{Locally, is_local, answered_locally}
-use Rattle.plain_model.specs.Core.{Core, Owed, Nothing, Rerouted, Unknown, End, AppEnded, AppFault, Refused, NoMember, Limit, Settled, first, others, still, moved_too, with_local, settle_by, settle_segments, settle_owed, settled, finish_by, finished}
+use Rattle.plain_model.specs.Core.{Core, Owed, Nothing, Rerouted, Unknown, End, AppEnded, AppFault, Refused, NoMember, Limit, Settled, first, others}
+use Rattle.plain_model.specs.Core.{still, moved_too, with_local, settle_by, settle_segments, settle_owed, settled, finish_by, finished}
 use Rattle.plain_model.specs.Answered.{with_work, with_end, unit_after, answered_core, answered_by, left_after, is_work, joins_again}
 use Rattle.plain_model.proofs.Segments.{AreSegments, first_cut, others_cut}
 use Rattle.plain_model.proofs.Replies.{all_append}
@@ -53,14 +54,16 @@ follows a b c x y = record {
 
 settled_by : (answer : Locally) (left : List (List Command)) (k : Core) (next : Core → Settled) → (AreSegments k.segments → AreSegments left)
     → ((j : Core) → j.segments ≡ left → IsSameUnit j (next j).core) → IsSameUnit k (settle_by answer left k next).core
-settled_by answer left k next h same = cond_both answer.stopped (record { core = with_local answer [] k; moved = answer.moved }) (moved_too answer.moved (next (with_local answer left k))) (λ s. IsSameUnit k s.core)
+settled_by answer left k next h same = cond_both answer.stopped (record { core = with_local answer [] k; moved = answer.moved })
+    (moved_too answer.moved (next (with_local answer left k))) (λ s. IsSameUnit k s.core)
     (λ e. with_left answer [] k (λ all. tt))
     (λ e. follows k (with_local answer left k) (next (with_local answer left k)).core (with_left answer left k h) (same (with_local answer left k) refl))
 
 segments_settled : (name : List ℕ) (gs : List (List Command)) (k : Core) → k.segments ≡ gs → IsSameUnit k (settle_segments name gs k).core
 unfolding settle_segments
 segments_settled name [] k e = itself k
-segments_settled name (g ∷ gs) k e = cond_both (is_local name k.standing g) (settle_by (answered_locally name g k.standing) gs k (settle_segments name gs)) (still k) (λ s. IsSameUnit k s.core)
+segments_settled name (g ∷ gs) k e = cond_both (is_local name k.standing g) (settle_by (answered_locally name g k.standing) gs k
+    (settle_segments name gs)) (still k) (λ s. IsSameUnit k s.core)
     (λ f. settled_by (answered_locally name g k.standing) gs k (settle_segments name gs) (λ all. (subst AreSegments e all).1) (segments_settled name gs))
     (λ f. itself k)
 
@@ -116,7 +119,8 @@ worked_unit r k = cond_both {A = Core} (joins_again r.replies k) _ _ (λ j. j.un
 pub after_unit : (r : Stripped) (k : Core) → IsSameChain k (unit_after r k)
 after_unit r k = cond_both r.ended (with_end r k) (if is_work (first k.segments) then with_work r k else k) (IsSameChain k)
     (λ e. record { segments = refl; owed = refl; end = refl; standing = refl; kept = refl; typdef = refl })
-    (λ e. cond_both (is_work (first k.segments)) (with_work r k) k (IsSameChain k) (λ f. worked r k) (λ f. record { segments = refl; owed = refl; end = refl; standing = refl; kept = refl; typdef = refl }))
+    (λ e. cond_both (is_work (first k.segments)) (with_work r k) k (IsSameChain k) (λ f. worked r k)
+    (λ f. record { segments = refl; owed = refl; end = refl; standing = refl; kept = refl; typdef = refl }))
 
 pub unit_is : (r : Stripped) (k : Core) → (unit_after r k).unit ≡ (if r.ended then suc k.unit else k.unit)
 unit_is r k = go r.ended
@@ -126,14 +130,17 @@ unit_is r k = go r.ended
     go false = cond_both (is_work (first k.segments)) (with_work r k) k (λ j. j.unit ≡ k.unit) (λ f. worked_unit r k) (λ f. refl)
 
 again_worked : (r : Stripped) (k : Core) → AllByRecursion IsCommand k.again → AreSegments k.segments → AllByRecursion IsCommand (with_work r k).again
-again_worked r k again all = cond_both {A = Core} (joins_again r.replies k) (record k { again = k.again ++ first k.segments }) (record k { spoken = true }) (λ j. AllByRecursion IsCommand j.again)
+again_worked r k again all = cond_both {A = Core} (joins_again r.replies k) (record k { again = k.again ++ first k.segments })
+    (record k { spoken = true }) (λ j. AllByRecursion IsCommand j.again)
     (λ e. all_append IsCommand k.again (first k.segments) again (first_cut k.segments all).commands)
     (λ e. again)
 
 again_after : (r : Stripped) (k : Core) → AllByRecursion IsCommand k.again → AreSegments k.segments → AllByRecursion IsCommand (unit_after r k).again
-again_after r k again all = cond_both {A = Core} r.ended (with_end r k) (if is_work (first k.segments) then with_work r k else k) (λ j. AllByRecursion IsCommand j.again)
+again_after r k again all = cond_both {A = Core} r.ended (with_end r k) (if is_work (first k.segments) then with_work r k else k)
+    (λ j. AllByRecursion IsCommand j.again)
     (λ e. tt)
-    (λ e. cond_both {A = Core} (is_work (first k.segments)) (with_work r k) k (λ j. AllByRecursion IsCommand j.again) (λ f. again_worked r k again all) (λ f. again))
+    (λ e. cond_both {A = Core} (is_work (first k.segments)) (with_work r k) k (λ j. AllByRecursion IsCommand j.again)
+    (λ f. again_worked r k again all) (λ f. again))
 
 core_answered : (r : Stripped) (k : Core) → IsAnswered r k (answered_core r k)
 core_answered r k =
@@ -147,7 +154,8 @@ core_answered r k =
       again = again_after r k;
     }
 
-pub answered_is : (name : List ℕ) (number : ℕ) (fault : Option RegisterFault) (r : Stripped) (k : Core) → IsAnswered r k (answered_by name number fault (answered_core r k)).core
+pub answered_is : (name : List ℕ) (number : ℕ) (fault : Option RegisterFault) (r : Stripped) (k : Core)
+    → IsAnswered r k (answered_by name number fault (answered_core r k)).core
 answered_is name number None r k =
     let a = core_answered r k in
     let s = settled_finished name (answered_core r k) in

@@ -42,12 +42,15 @@ sent_keeps q l f sending = record {
 
 -- ---- an owed error is told
 
-books_accept : {U : Type 0} (unit : ℕ) (o : Owed) (bereft : Bool) (flight : ℕ → InFlight U) (l : Account) → Books unit o bereft flight l → bereft ≡ false → o ≢ Nothing
+books_accept : {U : Type 0} (unit : ℕ) (o : Owed) (bereft : Bool) (flight : ℕ → InFlight U) (l : Account) → Books unit o bereft flight l
+    → bereft ≡ false → o ≢ Nothing
     → Books unit Nothing bereft flight (note (owed_telling o unit) l)
 books_accept unit Nothing bereft flight l b live ne = absurd (ne refl)
-books_accept unit Rerouted bereft flight l b live ne = books_told unit Rerouted Nothing bereft bereft flight l (pred unit) ToldRerouted b (b.untold_before live ne) (b.before refl)
+books_accept unit Rerouted bereft flight l b live ne = books_told unit Rerouted Nothing bereft bereft flight l (pred unit) ToldRerouted b
+    (b.untold_before live ne) (b.before refl)
     (λ k h e. absurd ((b.pending k h).not_before refl e)) (λ e. absurd (nothing_rerouted e)) (λ e. let pos = b.positive in (omega arith, live, refl))
-books_accept unit Unknown bereft flight l b live ne = books_told unit Unknown Nothing bereft bereft flight l (pred unit) ToldUnknown b (b.untold_before live ne) tt
+books_accept unit Unknown bereft flight l b live ne = books_told unit Unknown Nothing bereft bereft flight l (pred unit) ToldUnknown b
+    (b.untold_before live ne) tt
     (λ k h e. tt) (λ e. absurd (nothing_rerouted e)) (λ e. let pos = b.positive in (omega arith, live, refl))
 
 owed_counts : (o : Owed) (n : ℕ) (l : Account) (k : ℕ) → (note (owed_telling o n) l).commits k ≡ l.commits k
@@ -69,13 +72,17 @@ accept_keeps name q l f goes ne =
 
 -- ---- no member is left
 
-books_last : {U : Type 0} (unit : ℕ) (o : Owed) (bereft : Bool) (flight : ℕ → InFlight U) (l : Account) → Books unit o bereft flight l → bereft ≡ false → l.commits unit ≡ 0
+books_last : {U : Type 0} (unit : ℕ) (o : Owed) (bereft : Bool) (flight : ℕ → InFlight U) (l : Account) → Books unit o bereft flight l
+    → bereft ≡ false → l.commits unit ≡ 0
     → Books unit o true flight (note (last_telling o unit) l)
-books_last unit Nothing bereft flight l b live none = books_told unit Nothing Nothing bereft true flight l unit ToldRerouted b (b.untold live unit (le_refl unit)) none
+books_last unit Nothing bereft flight l b live none = books_told unit Nothing Nothing bereft true flight l unit ToldRerouted b (b.untold live unit
+    (le_refl unit)) none
     (λ k h e. let lt = (b.pending k h).below in absurd (omega arith)) (λ e. e) (λ e. absurd (true≢false e))
-books_last unit Rerouted bereft flight l b live none = books_told unit Rerouted Rerouted bereft true flight l (pred unit) ToldRerouted b (b.untold_before live rerouted_nothing) (b.before refl)
+books_last unit Rerouted bereft flight l b live none = books_told unit Rerouted Rerouted bereft true flight l (pred unit) ToldRerouted b
+    (b.untold_before live rerouted_nothing) (b.before refl)
     (λ k h e. absurd ((b.pending k h).not_before refl e)) (λ e. e) (λ e. absurd (true≢false e))
-books_last unit Unknown bereft flight l b live none = books_told unit Unknown Unknown bereft true flight l (pred unit) ToldUnknown b (b.untold_before live unknown_nothing) tt
+books_last unit Unknown bereft flight l b live none = books_told unit Unknown Unknown bereft true flight l (pred unit) ToldUnknown b
+    (b.untold_before live unknown_nothing) tt
     (λ k h e. tt) (λ e. e) (λ e. absurd (true≢false e))
 
 last_counts : (o : Owed) (n : ℕ) (l : Account) (k : ℕ) → (note (last_telling o n) l).commits k ≡ l.commits k
@@ -83,7 +90,8 @@ last_counts Nothing n l k = refl
 last_counts Rerouted n l k = refl
 last_counts Unknown n l k = refl
 
-books_none_left : {U : Type 0} (stage : Stage) (k : Core) (flight : ℕ → InFlight U) (l : Account) → Books k.unit k.owed (is_bereft k.end) flight l → is_bereft k.end ≡ false → l.commits k.unit ≡ 0
+books_none_left : {U : Type 0} (stage : Stage) (k : Core) (flight : ℕ → InFlight U) (l : Account) → Books k.unit k.owed (is_bereft k.end) flight l
+    → is_bereft k.end ≡ false → l.commits k.unit ≡ 0
     → Books k.unit k.owed true flight (note (none_left_telling stage k) l) × ((note (none_left_telling stage k) l).commits k.unit ≡ 0)
 books_none_left New k flight l b live none = (books_bereft k.unit k.owed (is_bereft k.end) flight l b, none)
 books_none_left Attached k flight l b live none = (books_bereft k.unit k.owed (is_bereft k.end) flight l b, none)
@@ -95,7 +103,8 @@ pub none_left_keeps : {U : Type 0} (name : List ℕ) (q : Session U) (l : Accoun
     → FactOf (none_left name q.core).core 0 [] q.in_flight (note (none_left_telling q.core.standing.stage q.core) l)
 unfolding none_left
 none_left_keeps name q l f goes sent =
-    let both = books_none_left q.core.standing.stage q.core q.in_flight l f.books (ap is_bereft goes.live) (f.working ∙ still_won q.core q.ran q.part q.in_flight l f sent) in
+    let both = books_none_left q.core.standing.stage q.core q.in_flight l f.books (ap is_bereft goes.live) (f.working
+    ∙ still_won q.core q.ran q.part q.in_flight l f sent) in
     record {
       books = both.0;
       bereft_sent = λ e. sent;
@@ -106,10 +115,12 @@ none_left_keeps name q l f goes sent =
 -- ---- other ends
 
 -- a core that differs in its end and its replies alone
-ended : {U : Type 0} (q : Session U) (l : Account) (k : Core) → Fact q l → k.unit ≡ q.core.unit → k.owed ≡ q.core.owed → k.sent ≡ q.core.sent → k.segments ≡ q.core.segments → k.again ≡ q.core.again
+ended : {U : Type 0} (q : Session U) (l : Account) (k : Core) → Fact q l → k.unit ≡ q.core.unit → k.owed ≡ q.core.owed → k.sent ≡ q.core.sent
+    → k.segments ≡ q.core.segments → k.again ≡ q.core.again
     → is_bereft k.end ≡ is_bereft q.core.end → FactOf k q.ran q.part q.in_flight l
 ended q l k f eu eo es eg ea eb = record {
-  books = subst (λ n. Books n k.owed (is_bereft k.end) q.in_flight l) (sym eu) (subst (λ o. Books q.core.unit o (is_bereft k.end) q.in_flight l) (sym eo) (subst (λ b. Books q.core.unit q.core.owed b q.in_flight l) (sym eb) f.books));
+  books = subst (λ n. Books n k.owed (is_bereft k.end) q.in_flight l) (sym eu) (subst (λ o. Books q.core.unit o (is_bereft k.end) q.in_flight l)
+      (sym eo) (subst (λ b. Books q.core.unit q.core.owed b q.in_flight l) (sym eb) f.books));
   bereft_sent = λ e. es ∙ f.bereft_sent (sym eb ∙ e);
   works = record {
     still_none = λ e. f.works.still_none (sym es ∙ e);
@@ -122,7 +133,8 @@ ended q l k f eu eo es eg ea eb = record {
   working = ap l.commits eu ∙ f.working ∙ sym (ap (λ gs. won (first gs) q.part) eg);
 }
 
-pub close_keeps : {U : Type 0} (which : LimitKind) (q : Session U) (l : Account) → Fact q l → GoesOn q.core → FactOf (closed which q.core).core q.ran q.part q.in_flight l
+pub close_keeps : {U : Type 0} (which : LimitKind) (q : Session U) (l : Account) → Fact q l → GoesOn q.core
+    → FactOf (closed which q.core).core q.ran q.part q.in_flight l
 unfolding closed
 close_keeps which q l f goes = ended q l (closed which q.core).core f refl refl refl refl refl (sym (ap is_bereft goes.live))
 

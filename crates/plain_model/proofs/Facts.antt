@@ -38,10 +38,12 @@ pub works_start : (k : Core) → (k.owed ≢ Nothing → k.sent ≡ false) → A
 works_start k o all again = record { still_none = λ e. (refl, refl); owed_sent = o; cut = all; up_to = tt; again = again; wins = λ e. refl }
 
 -- nothing is won before the segment is sent
-pub still_won : {U : Type 0} (k : Core) (ran : ℕ) (part : List Dss) (flight : ℕ → InFlight U) (l : Account) → FactOf k ran part flight l → k.sent ≡ false → won (first k.segments) part ≡ 0
+pub still_won : {U : Type 0} (k : Core) (ran : ℕ) (part : List Dss) (flight : ℕ → InFlight U) (l : Account) → FactOf k ran part flight l
+    → k.sent ≡ false → won (first k.segments) part ≡ 0
 still_won k ran part flight l f e = ap (λ p. won (first k.segments) p) (f.works.still_none e).1
 
-pub books_with : {U : Type 0} (unit unit2 : ℕ) (o o2 : Owed) (b b2 : Bool) (flight : ℕ → InFlight U) (l : Account) → unit2 ≡ unit → o2 ≡ o → b2 ≡ b → Books unit o b flight l → Books unit2 o2 b2 flight l
+pub books_with : {U : Type 0} (unit unit2 : ℕ) (o o2 : Owed) (b b2 : Bool) (flight : ℕ → InFlight U) (l : Account) → unit2 ≡ unit → o2 ≡ o → b2 ≡ b
+    → Books unit o b flight l → Books unit2 o2 b2 flight l
 books_with unit unit2 o o2 b b2 flight l eu eo eb books =
     subst (λ n. Books n o2 b2 flight l) (sym eu) (subst (λ n. Books unit n b2 flight l) (sym eo) (subst (λ n. Books unit o n flight l) (sym eb) books))
 

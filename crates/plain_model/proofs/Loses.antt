@@ -1,5 +1,6 @@
 -- The conversation is lost: what a session keeps.
-use Rattle.std.proofs.Common.{◌≡◌, ◌≢◌, inl, inr, ℕ, suc, ◌&&◌, ◌||◌, Bool, true, false, if◌then◌else◌, List, [], drop, ap, sym, refl, subst, ◌∙◌, le_refl, true≢false}
+use Rattle.std.proofs.Common.{◌≡◌, ◌≢◌, inl, inr, ℕ, suc, ◌&&◌, ◌||◌, Bool, true, false, if◌then◌else◌, List, [], drop, ap, sym, refl, subst, ◌∙◌}
+use Rattle.std.proofs.Common.{le_refl, true≢false}
 use Rattle.std.proofs.lemmas.Bool.{cond_both, cond-true, cond-false}
 use Rattle.dss_frame.specs.declared.dss.Dss.{Dss}
 use Rattle.unit_segments.specs.declared.command.Command.{Command}
@@ -18,14 +19,16 @@ use Rattle.plain_model.proofs.Runs.{and_true}
 
 -- what is left to run is a segment, and while a commit is in it nothing is won
 pub left_segment : (g : List Command) (ran : ℕ) (part : List Dss) → IsSegment g → IsSegment (left_to_run g ran part)
-left_segment g ran part s = cond_both (stops g part) [] (drop ran (numbered 1 g)) IsSegment (λ e. nothing_cut) (λ e. drop_segment ran (numbered 1 g) (numbered_segment 1 g s))
+left_segment g ran part s = cond_both (stops g part) [] (drop ran (numbered 1 g)) IsSegment (λ e. nothing_cut) (λ e. drop_segment ran (numbered 1 g)
+    (numbered_segment 1 g s))
 
 left_won : (g : List Command) (ran : ℕ) (part : List Dss) → IsSegment g → AreUpTo ran part → has_commit (left_to_run g ran part) ≡ true → won g part ≡ 0
 left_won g ran part s up = go (stops g part) refl
   where
     go : (b : Bool) → stops g part ≡ b → has_commit (left_to_run g ran part) ≡ true → won g part ≡ 0
     go true e h = absurd (true≢false (sym h ∙ ap has_commit (cond-true (stops g part) [] (drop ran (numbered 1 g)) e)))
-    go false e h = ap (λ b. if b then 1 else 0) (commit_left ran g part s.cut (sym (ap has_commit (cond-false (stops g part) [] (drop ran (numbered 1 g)) e)) ∙ h) up)
+    go false e h = ap (λ b. if b then 1 else 0) (commit_left ran g part s.cut (sym (ap has_commit (cond-false (stops g part) [] (drop ran
+        (numbered 1 g)) e)) ∙ h) up)
 
 -- where no commit was sent nothing is won
 not_sent : (k : Core) (ran : ℕ) (part : List Dss) → Works k ran part → commit_sent k ≡ false → won (first k.segments) part ≡ 0
@@ -50,11 +53,13 @@ lost_again : {U : Type 0} (q : Session U) (l : Account) → Fact q l → q.core.
 lost_again {U} q l f ne =
     let sent = f.works.owed_sent ne in
     subst (λ flight. FactOf (calm q.core) 0 [] flight l)
-    (sym (cond-false (commit_sent q.core) (put q.in_flight q.core.unit (record { held = q.held; commands = to_run q })) q.in_flight (ap (λ b. b && has_commit (first q.core.segments)) sent)))
+    (sym (cond-false (commit_sent q.core) (put q.in_flight q.core.unit (record { held = q.held; commands = to_run q })) q.in_flight (ap
+    (λ b. b && has_commit (first q.core.segments)) sent)))
     (calmed q l f (still_won q.core q.ran q.part q.in_flight l f sent))
 
 -- a commit was sent
-lost_unknown : {U : Type 0} (q : Session U) (l : Account) → Fact q l → commit_sent q.core ≡ true → FactOf (owes Unknown q.core) 0 [] (put q.in_flight q.core.unit (record { held = q.held; commands = to_run q })) l
+lost_unknown : {U : Type 0} (q : Session U) (l : Account) → Fact q l → commit_sent q.core ≡ true
+    → FactOf (owes Unknown q.core) 0 [] (put q.in_flight q.core.unit (record { held = q.held; commands = to_run q })) l
 lost_unknown {U} q l f e = record {
   books = books_owed q.core.unit q.core.owed Unknown (is_bereft q.core.end) q.in_flight (put q.in_flight q.core.unit here) l f.books
       (λ isnt. live (is_bereft q.core.end) refl) (λ r. absurd (unknown_rerouted r))
@@ -62,7 +67,8 @@ lost_unknown {U} q l f e = record {
       (λ ek. inr (
         ek,
         f.working ∙ left_won (segment_of q) q.ran q.part seg f.works.up_to
-            (sym (ap (λ (v : InFlight U). has_commit v.commands) (put_same q.in_flight q.core.unit here)) ∙ subst (λ n. has_commit (put q.in_flight q.core.unit here n).commands ≡ true) ek h),
+            (sym (ap (λ (v : InFlight U). has_commit v.commands) (put_same q.in_flight q.core.unit here))
+            ∙ subst (λ n. has_commit (put q.in_flight q.core.unit here n).commands ≡ true) ek h),
         unknown_rerouted,
       ))
       (λ ne. inl (subst (λ (v : InFlight U). has_commit v.commands ≡ true) (put_other q.in_flight q.core.unit here k ne) h)))
@@ -85,7 +91,8 @@ lost_unknown {U} q l f e = record {
 -- none was, and the unit can't be run again
 lost_rerouted : {U : Type 0} (q : Session U) (l : Account) → Fact q l → won (segment_of q) q.part ≡ 0 → FactOf (owes Rerouted q.core) 0 [] q.in_flight l
 lost_rerouted q l f none = record {
-  books = books_owed q.core.unit q.core.owed Rerouted (is_bereft q.core.end) q.in_flight q.in_flight l f.books (λ isnt. absurd (isnt refl)) (λ r. f.working ∙ none) (λ k h. inl h) f.books.shape;
+  books = books_owed q.core.unit q.core.owed Rerouted (is_bereft q.core.end) q.in_flight q.in_flight l f.books (λ isnt. absurd (isnt refl))
+      (λ r. f.working ∙ none) (λ k h. inl h) f.books.shape;
   bereft_sent = λ t. refl;
   works = works_start (owes Rerouted q.core) (λ ne. refl) f.works.cut tt;
   working = f.books.above (suc q.core.unit) (le_refl (suc q.core.unit));
@@ -102,7 +109,8 @@ lost_owing_keeps {U} q l Nothing f eo = go (commit_sent q.core) refl
     go true e = subst Kept (sym e) (lost_unknown q l f e)
     go false e = subst Kept (sym e)
         (let none = not_sent q.core q.ran q.part f.works e in
-        cond_both {A = Core} (q.core.spoken || q.core.pinned) (owes Rerouted q.core) (calm q.core) (λ k. FactOf k 0 [] q.in_flight l) (λ t. lost_rerouted q l f none) (λ t. calmed q l f none))
+        cond_both {A = Core} (q.core.spoken || q.core.pinned) (owes Rerouted q.core) (calm q.core) (λ k. FactOf k 0 [] q.in_flight l)
+        (λ t. lost_rerouted q l f none) (λ t. calmed q l f none))
 lost_owing_keeps q l Rerouted f eo = lost_again q l f (λ e. rerouted_is (sym e ∙ eo))
   where
     rerouted_is : Nothing ≡ Rerouted → ⊥

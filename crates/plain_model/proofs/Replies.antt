@@ -1,5 +1,6 @@
 -- Replies and their numbers: what a segment's replies say of its unit of work is what those to the command say that ends it.
-use Rattle.std.proofs.Common.{◌≡◌, ◌≢◌, ℕ, suc, ◌≤◌, ◌<◌, ◌==◌, Bool, true, false, List, [], ◌∷◌, ◌++◌, find, refl, sym, ap, ◌∙◌, arith, eqb, eqb-true, eq-eqb}
+use Rattle.std.proofs.Common.{◌≡◌, ◌≢◌, ℕ, suc, ◌≤◌, ◌<◌, ◌==◌, Bool, true, false, List, [], ◌∷◌, ◌++◌, find, refl, sym, ap, ◌∙◌, arith, eqb}
+use Rattle.std.proofs.Common.{eqb-true, eq-eqb}
 use Rattle.std.proofs.lemmas.Bool.{cond-true, cond-false}
 use Rattle.std.proofs.lemmas.List.Elements.{filter-append}
 use Rattle.std.specs.List.{AllByRecursion}
@@ -49,7 +50,8 @@ other_number a b ne = go (eqb a b) refl
 all_replies : (number : ℕ) (r : List Dss) → HaveNumber number r → replies_to number r ≡ r
 all_replies number [] all = refl
 all_replies number (d ∷ r) all =
-    cond-true (d.corr == number) (d ∷ replies_to number r) (replies_to number r) (same_number d.corr number all.0) ∙ ap (λ xs. d ∷ xs) (all_replies number r all.1)
+    cond-true (d.corr == number) (d ∷ replies_to number r) (replies_to number r) (same_number d.corr number all.0)
+    ∙ ap (λ xs. d ∷ xs) (all_replies number r all.1)
 
 no_replies : (number : ℕ) (r : List Dss) → AllByRecursion (λ d. d.corr ≢ number) r → replies_to number r ≡ []
 no_replies number [] all = refl
@@ -58,7 +60,8 @@ no_replies number (d ∷ r) all =
 
 -- none has a number beyond, or 0
 pub none_beyond : (count number : ℕ) (part : List Dss) → AreUpTo count part → count < number → replies_to number part ≡ []
-none_beyond count number part all lt = no_replies number part (all_weaker (IsUpTo count) (λ d. d.corr ≢ number) part (λ d u e. let le = u.most in omega arith) all)
+none_beyond count number part all lt = no_replies number part (all_weaker (IsUpTo count) (λ d. d.corr ≢ number) part
+    (λ d u e. let le = u.most in omega arith) all)
 
 pub none_zero : (count : ℕ) (part : List Dss) → AreUpTo count part → replies_to 0 part ≡ []
 none_zero count part all = no_replies 0 part (all_weaker (IsUpTo count) (λ d. d.corr ≢ 0) part (λ d u e. let pos = u.positive in omega arith) all)
@@ -80,7 +83,8 @@ pub nothing_said : (ran : ℕ) (g : List Command) (part : List Dss) → AreUpTo 
 nothing_said ran g part all lt = ap committed_in (none_beyond ran (end_number g) part all lt)
 
 -- that command runs
-pub end_said : (ran : ℕ) (g : List Command) (c : Command) (cs : List Command) (part r : List Dss) → IsCut g → drop ran (numbered 1 g) ≡ c ∷ cs → is_end c ≡ true
+pub end_said : (ran : ℕ) (g : List Command) (c : Command) (cs : List Command) (part r : List Dss) → IsCut g → drop ran (numbered 1 g) ≡ c ∷ cs
+    → is_end c ≡ true
     → AreUpTo ran part → HaveNumber (suc ran) r → (is_committed g part ≡ false) × (is_committed g (part ++ r) ≡ says_committed r)
 end_said ran g c cs part r cut e end all more =
     let is : end_number g ≡ suc ran = ends_next ran 1 g c cs cut e end ∙ omega arith in (
@@ -91,14 +95,17 @@ end_said ran g c cs part r cut e end all more =
     )
 
 -- another command runs
-pub nothing_more_said : (ran : ℕ) (g : List Command) (c : Command) (cs : List Command) (part r : List Dss) → drop ran (numbered 1 g) ≡ c ∷ cs → is_end c ≡ false
+pub nothing_more_said : (ran : ℕ) (g : List Command) (c : Command) (cs : List Command) (part r : List Dss) → drop ran (numbered 1 g) ≡ c ∷ cs
+    → is_end c ≡ false
     → HaveNumber (suc ran) r → is_committed g (part ++ r) ≡ is_committed g part
 nothing_more_said ran g c cs part r e end more =
     let ne = not_end_next ran 1 g c cs (omega arith) e end in
     ap committed_in (replies_both (end_number g) part r
-    ∙ ap (λ xs. replies_to (end_number g) part ++ xs) (no_replies (end_number g) r (all_weaker (λ d. d.corr ≡ suc ran) (λ d. d.corr ≢ end_number g) r (λ d same is. ne (sym is ∙ same ∙ omega arith)) more))
+    ∙ ap (λ xs. replies_to (end_number g) part ++ xs) (no_replies (end_number g) r (all_weaker (λ d. d.corr ≡ suc ran)
+    (λ d. d.corr ≢ end_number g) r (λ d same is. ne (sym is ∙ same ∙ omega arith)) more))
     ∙ append_nil (replies_to (end_number g) part))
 
 -- while a commit is left to run nothing is said
-pub commit_left : (ran : ℕ) (g : List Command) (part : List Dss) → IsCut g → has_commit (drop ran (numbered 1 g)) ≡ true → AreUpTo ran part → is_committed g part ≡ false
+pub commit_left : (ran : ℕ) (g : List Command) (part : List Dss) → IsCut g → has_commit (drop ran (numbered 1 g)) ≡ true → AreUpTo ran part
+    → is_committed g part ≡ false
 commit_left ran g part cut has all = let le = commit_behind ran 1 g cut has in nothing_said ran g part all (omega arith)

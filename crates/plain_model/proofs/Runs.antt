@@ -1,5 +1,6 @@
 -- The next command of the segment in work runs: what a session keeps.
-use Rattle.std.proofs.Common.{◌≡◌, ◌≢◌, ℕ, suc, ◌<◌, ◌+◌, ◌==◌, ◌&&◌, Bool, true, false, if◌then◌else◌, List, [], ◌∷◌, ◌++◌, drop, Some, None, ap, sym, refl, subst, ◌∙◌, le_refl, arith, true≢false}
+use Rattle.std.proofs.Common.{◌≡◌, ◌≢◌, ℕ, suc, ◌<◌, ◌+◌, ◌==◌, ◌&&◌, Bool, true, false, if◌then◌else◌, List, [], ◌∷◌, ◌++◌, drop, Some, None, ap}
+use Rattle.std.proofs.Common.{sym, refl, subst, ◌∙◌, le_refl, arith, true≢false}
 use Rattle.std.proofs.lemmas.Bool.{cond_both, cond-true, cond-false}
 use Rattle.dss_frame.specs.declared.dss.Dss.{Dss}
 use Rattle.ddm_objects.specs.Objects.{canonical_object}
@@ -25,12 +26,19 @@ use Rattle.plain_model.proofs.Facts.{Fact, Works}
 -- ---- a command without asking
 
 without_code : (c : Command) → (unasked c).code ≡ c.code
-without_code c = cond_both {A = Command} (ends_unit (class_of c.code)) (record c { body = canonical_object (code_of c.body) (kept_members is_asking (data_of c.body)) }) c (λ d. d.code ≡ c.code) (λ e. refl) (λ e. refl)
+without_code c = cond_both {A = Command} (ends_unit (class_of c.code)) (record c {
+  body = canonical_object (code_of c.body) (kept_members is_asking
+      (data_of c.body));
+}) c (λ d. d.code ≡ c.code) (λ e. refl) (λ e. refl)
 
 without_number : (c : Command) → (unasked c).corr ≡ c.corr
-without_number c = cond_both {A = Command} (ends_unit (class_of c.code)) (record c { body = canonical_object (code_of c.body) (kept_members is_asking (data_of c.body)) }) c (λ d. d.corr ≡ c.corr) (λ e. refl) (λ e. refl)
+without_number c = cond_both {A = Command} (ends_unit (class_of c.code)) (record c {
+  body = canonical_object (code_of c.body)
+      (kept_members is_asking (data_of c.body));
+}) c (λ d. d.corr ≡ c.corr) (λ e. refl) (λ e. refl)
 
-pub left_is : (g : List Command) (ran : ℕ) (part : List Dss) (c : Command) (cs : List Command) → left_to_run g ran part ≡ c ∷ cs → drop ran (numbered 1 g) ≡ c ∷ cs
+pub left_is : (g : List Command) (ran : ℕ) (part : List Dss) (c : Command) (cs : List Command) → left_to_run g ran part ≡ c ∷ cs
+    → drop ran (numbered 1 g) ≡ c ∷ cs
 left_is g ran part c cs e = go (stops g part) refl
   where
     nil_cons : {x : Command} {xs : List Command} → [] ≡ x ∷ xs → ⊥
@@ -53,15 +61,18 @@ pub record Says (g : List Command) (part r : List Dss) (c : Command) : Type 0 wh
   pub not_now : commits c r ≡ false → is_committed g (part ++ r) ≡ is_committed g part
   pub no_commit : (c.code == rdbcmm) ≡ false → is_committed g (part ++ r) ≡ true → is_committed g part ≡ true
 
-says : {S U : Type 0} {m : Meaning S U} {v : Values S U} → Laws m v → (s : S) (u : U) → v.shared s → v.unit u → (g : List Command) (ran : ℕ) (part : List Dss) (c : Command) (cs : List Command)
-    → IsSegment g → IsCommand c → drop ran (numbered 1 g) ≡ c ∷ cs → AreUpTo ran part → HaveNumber (suc ran) (m.replies s u (unasked c)) → Says g part (m.replies s u (unasked c)) c
+says : {S U : Type 0} {m : Meaning S U} {v : Values S U} → Laws m v → (s : S) (u : U) → v.shared s → v.unit u
+    → (g : List Command) (ran : ℕ) (part : List Dss) (c : Command) (cs : List Command)
+    → IsSegment g → IsCommand c → drop ran (numbered 1 g) ≡ c ∷ cs → AreUpTo ran part → HaveNumber (suc ran) (m.replies s u (unasked c))
+    → Says g part (m.replies s u (unasked c)) c
 says {m = m} laws s u sh un g ran part c cs seg is e up num = go (is_end c) refl
   where
     r : List Dss
     r = m.replies s u (unasked c)
 
     other : is_end c ≡ true → (c.code == rdbcmm) ≡ false → says_committed r ≡ false
-    other end isnt = (laws.nothing_else_commits s u c sh un is).0 (ap (λ code. ends_unit (class_of code)) (without_code c) ∙ end) (ap (λ code. code == rdbcmm) (without_code c) ∙ isnt)
+    other end isnt = (laws.nothing_else_commits s u c sh un is).0 (ap (λ code. ends_unit (class_of code)) (without_code c)
+        ∙ end) (ap (λ code. code == rdbcmm) (without_code c) ∙ isnt)
 
     not_said : is_end c ≡ true → commits c r ≡ false → says_committed r ≡ false
     not_said end f = by (c.code == rdbcmm) refl
@@ -88,17 +99,21 @@ says {m = m} laws s u sh un g ran part c cs seg is e up num = go (is_end c) refl
 
 -- ---- the session
 
-numbers : {S U : Type 0} {m : Meaning S U} {v : Values S U} → Laws m v → (s : S) (u : U) → v.shared s → v.unit u → (ran : ℕ) (c : Command) → IsCommand c → c.corr ≡ 1 + ran
+numbers : {S U : Type 0} {m : Meaning S U} {v : Values S U} → Laws m v → (s : S) (u : U) → v.shared s → v.unit u → (ran : ℕ) (c : Command)
+    → IsCommand c → c.corr ≡ 1 + ran
     → HaveNumber (suc ran) (m.replies s u (unasked c))
 numbers {m = m} laws s u sh un ran c is e =
-    all_weaker (IsReplyTo (unasked c)) (λ d. d.corr ≡ suc ran) (m.replies s u (unasked c)) (λ d reply. reply.number ∙ without_number c ∙ e ∙ omega arith) (laws.answered s u c sh un is).0.each
+    all_weaker (IsReplyTo (unasked c)) (λ d. d.corr ≡ suc ran) (m.replies s u (unasked c)) (λ d reply. reply.number ∙ without_number c ∙ e
+    ∙ omega arith) (laws.answered s u c sh un is).0.each
 
 no_wins : (a b : Bool) → (b ≡ true → a ≡ true) → a ≡ false → b ≡ false
 no_wins a true h e = absurd (true≢false (sym (h refl) ∙ e))
 no_wins a false h e = refl
 
-works_run : {S U : Type 0} {m : Meaning S U} {v : Values S U} → Laws m v → (s : S) (q : Session U) (c : Command) (cs : List Command) → v.shared s → v.unit q.held → Works q.core q.ran q.part
-    → IsSending q.core → q.core.sent ≡ true → IsCommand c → drop q.ran (numbered 1 (segment_of q)) ≡ c ∷ cs → HaveNumber (suc q.ran) (m.replies s q.held (unasked c))
+works_run : {S U : Type 0} {m : Meaning S U} {v : Values S U} → Laws m v → (s : S) (q : Session U) (c : Command) (cs : List Command) → v.shared s
+    → v.unit q.held → Works q.core q.ran q.part
+    → IsSending q.core → q.core.sent ≡ true → IsCommand c → drop q.ran (numbered 1 (segment_of q)) ≡ c ∷ cs
+    → HaveNumber (suc q.ran) (m.replies s q.held (unasked c))
     → Says (segment_of q) q.part (m.replies s q.held (unasked c)) c → Works q.core (suc q.ran) (q.part ++ m.replies s q.held (unasked c))
 works_run {m = m} laws s q c cs sh un w sending sent is e num say = record {
   still_none = λ f. absurd (true≢false (sym sent ∙ f));
@@ -110,7 +125,8 @@ works_run {m = m} laws s q c cs sh un w sending sent is e num say = record {
       (say.no_commit (no_commit_next q.ran 1 (segment_of q) c cs e f)) (w.wins f);
 }
 
-pub run_keeps : {S U : Type 0} {m : Meaning S U} {v : Values S U} → Laws m v → (s : S) (q : Session U) (l : Account) (cs : List Command) → v.shared s → v.unit q.held → Fact q l
+pub run_keeps : {S U : Type 0} {m : Meaning S U} {v : Values S U} → Laws m v → (s : S) (q : Session U) (l : Account) (cs : List Command)
+    → v.shared s → v.unit q.held → Fact q l
     → IsSending q.core → q.core.sent ≡ true → cs ≢ [] → left_to_run (segment_of q) q.ran q.part ≡ cs
     → Fact (run_first m s q cs) (count (if run_commits m s q.held cs then Some q.core.unit else None) l)
 run_keeps laws s q l [] sh un f sending sent some e = absurd (some refl)
@@ -129,8 +145,10 @@ run_keeps {S} {U} {m = m} laws s q l (c ∷ cs) sh un f sending sent some e =
     after : Session U
     after = run_first m s q (c ∷ cs)
 
-    go : Works q.core (suc q.ran) (q.part ++ m.replies s q.held (unasked c)) → Says (segment_of q) q.part (m.replies s q.held (unasked c)) c → is_bereft q.core.end ≡ false
-        → (b : Bool) → commits c (m.replies s q.held (unasked c)) ≡ b → Fact after (count (if commits c (m.replies s q.held (unasked c)) then Some q.core.unit else None) l)
+    go : Works q.core (suc q.ran) (q.part ++ m.replies s q.held (unasked c)) → Says (segment_of q) q.part (m.replies s q.held (unasked c)) c
+        → is_bereft q.core.end ≡ false
+        → (b : Bool) → commits c (m.replies s q.held (unasked c)) ≡ b
+        → Fact after (count (if commits c (m.replies s q.held (unasked c)) then Some q.core.unit else None) l)
     go works say live true t = subst (λ b. Fact after (count (if b then Some q.core.unit else None) l)) (sym t)
         (let none : l.commits q.core.unit ≡ 0 = f.working ∙ ap (λ b. if b then 1 else 0) (say.now t).0 in record {
           books = books_more q.core.unit q.core.owed (is_bereft q.core.end) q.in_flight q.in_flight l q.core.unit f.books (le_refl q.core.unit) none

@@ -1,5 +1,6 @@
 -- Segments: a command that ends a unit is the last of its segment; commands keep their kind when they are numbered.
-use Rattle.std.proofs.Common.{◌≡◌, ◌⊎◌, inl, inr, ℕ, zero, suc, ◌+◌, ◌≤◌, ◌<◌, ◌≢◌, ◌==◌, Bool, true, false, ◌||◌, List, [], ◌∷◌, drop, refl, sym, subst, ap, ◌∙◌, arith, true≢false, eqb-true}
+use Rattle.std.proofs.Common.{◌≡◌, ◌⊎◌, inl, inr, ℕ, zero, suc, ◌+◌, ◌≤◌, ◌<◌, ◌≢◌, ◌==◌, Bool, true, false, ◌||◌, List, [], ◌∷◌, drop, refl, sym}
+use Rattle.std.proofs.Common.{subst, ap, ◌∙◌, arith, true≢false, eqb-true}
 use Rattle.std.proofs.lemmas.Bool.{cond_both, cond-true, cond-false}
 use Rattle.std.specs.List.{AllByRecursion}
 use Rattle.ddm_codepoints.specs.declared.code_class.CodeClass.{CodeClass}
@@ -127,7 +128,8 @@ end_from k (c ∷ g) = cond_both (is_end c) k (end_number_from (k + 1) g) (λ n.
     further (inr le) = inr (omega arith)
 
 -- where the command that comes next ends the unit, its number is that
-pub ends_next : (ran k : ℕ) (g : List Command) (c : Command) (cs : List Command) → IsCut g → drop ran (numbered k g) ≡ c ∷ cs → is_end c ≡ true → end_number_from k g ≡ k + ran
+pub ends_next : (ran k : ℕ) (g : List Command) (c : Command) (cs : List Command) → IsCut g → drop ran (numbered k g) ≡ c ∷ cs → is_end c ≡ true
+    → end_number_from k g ≡ k + ran
 ends_next ran k [] c cs cut e end = absurd (cons_nil (sym e ∙ drop_nothing ran k))
 ends_next zero k (d ∷ g) c cs cut e end = cond-true (is_end d) k (end_number_from (k + 1) g) (ap is_end (head_is e) ∙ end) ∙ omega arith
 ends_next (suc ran) k (d ∷ g) c cs cut e end = go (ends_next ran (k + 1) g c cs cut.1 e end) (is_end d) refl
@@ -137,9 +139,11 @@ ends_next (suc ran) k (d ∷ g) c cs cut e end = go (ends_next ran (k + 1) g c c
     go rest false f = cond-false (is_end d) k (end_number_from (k + 1) g) f ∙ rest ∙ omega arith
 
 -- where it doesn't, its number isn't
-pub not_end_next : (ran k : ℕ) (g : List Command) (c : Command) (cs : List Command) → 0 < k → drop ran (numbered k g) ≡ c ∷ cs → is_end c ≡ false → end_number_from k g ≢ k + ran
+pub not_end_next : (ran k : ℕ) (g : List Command) (c : Command) (cs : List Command) → 0 < k → drop ran (numbered k g) ≡ c ∷ cs → is_end c ≡ false
+    → end_number_from k g ≢ k + ran
 not_end_next ran k [] c cs pos e end is = omega arith
-not_end_next zero k (d ∷ g) c cs pos e end is = beyond (end_from (k + 1) g) (sym (cond-false (is_end d) k (end_number_from (k + 1) g) (ap is_end (head_is e) ∙ end)) ∙ is)
+not_end_next zero k (d ∷ g) c cs pos e end is = beyond (end_from (k + 1) g) (sym (cond-false (is_end d) k (end_number_from (k + 1) g) (ap is_end
+    (head_is e) ∙ end)) ∙ is)
   where
     beyond : (end_number_from (k + 1) g ≡ 0) ⊎ (k + 1 ≤ end_number_from (k + 1) g) → end_number_from (k + 1) g ≡ k + 0 → ⊥
     beyond (inl z) i = omega arith
@@ -170,7 +174,8 @@ commit_behind zero k (d ∷ g) cut e = go (commit_behind zero (k + 1) g cut.1) (
   where
     go : (has_commit (numbered (k + 1) g) ≡ true → (k + 1) + 0 ≤ end_number_from (k + 1) g) → (b : Bool) → is_end d ≡ b → k + 0 ≤ end_number_from k (d ∷ g)
     go rest true f = subst (λ n. k + 0 ≤ n) (sym (cond-true (is_end d) k (end_number_from (k + 1) g) f)) (omega arith)
-    go rest false f = subst (λ n. k + 0 ≤ n) (sym (cond-false (is_end d) k (end_number_from (k + 1) g) f)) (further (or_true (d.code == rdbcmm) (has_commit (numbered (k + 1) g)) e))
+    go rest false f = subst (λ n. k + 0 ≤ n) (sym (cond-false (is_end d) k (end_number_from (k + 1) g) f)) (further (or_true (d.code == rdbcmm)
+        (has_commit (numbered (k + 1) g)) e))
       where
         further : ((d.code == rdbcmm) ≡ true) ⊎ (has_commit (numbered (k + 1) g) ≡ true) → k + 0 ≤ end_number_from (k + 1) g
         further (inl h) = absurd (true≢false (sym (commit_ends d h) ∙ f))
@@ -178,11 +183,13 @@ commit_behind zero k (d ∷ g) cut e = go (commit_behind zero (k + 1) g cut.1) (
 commit_behind (suc ran) k (d ∷ g) cut e = go (commit_behind ran (k + 1) g cut.1 e) (is_end d) refl
   where
     go : (k + 1) + ran ≤ end_number_from (k + 1) g → (b : Bool) → is_end d ≡ b → k + suc ran ≤ end_number_from k (d ∷ g)
-    go rest true f = absurd (true≢false (sym e ∙ ap (λ h. has_commit (drop ran (numbered (k + 1) h))) (subst (λ b. Closes b g) f cut.0) ∙ ap has_commit (drop_nothing ran (k + 1))))
+    go rest true f = absurd (true≢false (sym e ∙ ap (λ h. has_commit (drop ran (numbered (k + 1) h))) (subst (λ b. Closes b g) f cut.0)
+        ∙ ap has_commit (drop_nothing ran (k + 1))))
     go rest false f = subst (λ n. k + suc ran ≤ n) (sym (cond-false (is_end d) k (end_number_from (k + 1) g) f)) (omega arith)
 
 -- where no commit stands, the next command is none
-pub no_commit_next : (ran k : ℕ) (g : List Command) (c : Command) (cs : List Command) → drop ran (numbered k g) ≡ c ∷ cs → has_commit g ≡ false → (c.code == rdbcmm) ≡ false
+pub no_commit_next : (ran k : ℕ) (g : List Command) (c : Command) (cs : List Command) → drop ran (numbered k g) ≡ c ∷ cs → has_commit g ≡ false
+    → (c.code == rdbcmm) ≡ false
 no_commit_next ran k [] c cs e none = absurd (cons_nil (sym e ∙ drop_nothing ran k))
 no_commit_next zero k (d ∷ g) c cs e none = sym (ap (λ (x : Command). x.code == rdbcmm) (head_is e)) ∙ left_false (d.code == rdbcmm) (has_commit g) none
   where

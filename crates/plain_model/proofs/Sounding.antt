@@ -1,5 +1,6 @@
 -- The core of every session stays sound.
-use Rattle.std.proofs.Common.{◌≡◌, ℕ, ◌==◌, ◌&&◌, ◌||◌, not, true, false, if◌then◌else◌, List, [], ◌∷◌, ◌++◌, Option, Some, None, ap, sym, refl, subst, ◌∙◌, true≢false, eqb-true}
+use Rattle.std.proofs.Common.{◌≡◌, ℕ, ◌==◌, ◌&&◌, ◌||◌, not, true, false, if◌then◌else◌, List, [], ◌∷◌, ◌++◌, Option, Some, None, ap, sym, refl}
+use Rattle.std.proofs.Common.{subst, ◌∙◌, true≢false, eqb-true}
 use Rattle.std.proofs.lemmas.Bool.{cond_both}
 use Rattle.std.specs.List.{AllByRecursion}
 use Rattle.dss_frame.specs.declared.dss.Dss.{Dss}
@@ -13,11 +14,13 @@ use Rattle.unit_segments.specs.Spelling.{chain_bytes}
 use Rattle.unit_segments.specs.Accepts.{sets_only, is_good_card}
 use Rattle.plain_model.specs.Group.{Meaning, Set}
 use Rattle.plain_model.specs.Local.{Locally, is_local, answered_locally}
-use Rattle.plain_model.specs.Core.{Core, Owed, Nothing, Rerouted, Unknown, Settled, first, number_in, still, moved_too, with_local, settle_by, settle_segments, settle_owed, settled, finish_by, finished, new_core}
+use Rattle.plain_model.specs.Core.{Core, Owed, Nothing, Rerouted, Unknown, Settled, first, number_in, still, moved_too, with_local, settle_by}
+use Rattle.plain_model.specs.Core.{settle_segments, settle_owed, settled, finish_by, finished, new_core}
 use Rattle.plain_model.specs.Begun.{Reading, Chain, Fault, TooLong, begun}
 use Rattle.plain_model.specs.Answered.{fit, joins_again, with_work, with_end, is_work, unit_after, answered_core, answered_by, register_fault, answered}
 use Rattle.plain_model.specs.Lost.{commit_sent, owes, lost_owing, lost, accepted, none_left, closed, left}
-use Rattle.plain_model.specs.Plain.{Session, State, Event, What, Begin, Sent, Run, Answer, Lose, RunLate, Accept, NoneLeft, Close, Leave, IsPossible, ArePossible, seen_of, to_run, run_first, run_late, session_after, after_event, start, plain}
+use Rattle.plain_model.specs.Plain.{Session, State, Event, What, Begin, Sent, Run, Answer, Lose, RunLate, Accept, NoneLeft, Close, Leave, IsPossible}
+use Rattle.plain_model.specs.Plain.{ArePossible, seen_of, to_run, run_first, run_late, session_after, after_event, start, plain}
 use Rattle.plain_model.specs.Sound.{IsSound, EachCoreIsSound}
 use Rattle.plain_model.proofs.Puts.{put_holds}
 use Rattle.plain_model.proofs.Replies.{all_append}
@@ -29,15 +32,18 @@ use Rattle.plain_model.proofs.Cores.{settled_finished, after_unit}
 abbrev IsFront : List ℕ → Core → Type 0
 IsFront name k = is_local name k.standing (first k.segments) ≡ false
 
-front_by : (name : List ℕ) (answer : Locally) (left : List (List Command)) (k : Core) (next : Core → Settled) → ((j : Core) → j.segments ≡ left → IsFront name (next j).core)
+front_by : (name : List ℕ) (answer : Locally) (left : List (List Command)) (k : Core) (next : Core → Settled) → ((j : Core) → j.segments ≡ left
+    → IsFront name (next j).core)
     → IsFront name (settle_by answer left k next).core
-front_by name answer left k next holds = cond_both answer.stopped (record { core = with_local answer [] k; moved = answer.moved }) (moved_too answer.moved (next (with_local answer left k))) (λ s. IsFront name s.core)
+front_by name answer left k next holds = cond_both answer.stopped (record { core = with_local answer [] k; moved = answer.moved })
+    (moved_too answer.moved (next (with_local answer left k))) (λ s. IsFront name s.core)
     (λ e. refl) (λ e. holds (with_local answer left k) refl)
 
 segments_front : (name : List ℕ) (gs : List (List Command)) (k : Core) → k.segments ≡ gs → IsFront name (settle_segments name gs k).core
 unfolding settle_segments
 segments_front name [] k e = ap (λ gs. is_local name k.standing (first gs)) e
-segments_front name (g ∷ gs) k e = cond_both (is_local name k.standing g) (settle_by (answered_locally name g k.standing) gs k (settle_segments name gs)) (still k) (λ s. IsFront name s.core)
+segments_front name (g ∷ gs) k e = cond_both (is_local name k.standing g) (settle_by (answered_locally name g k.standing) gs k
+    (settle_segments name gs)) (still k) (λ s. IsFront name s.core)
     (λ f. front_by name (answered_locally name g k.standing) gs k (settle_segments name gs) (segments_front name gs))
     (λ f. ap (λ hs. is_local name k.standing (first hs)) e ∙ f)
 
@@ -107,11 +113,32 @@ begin_sound name (Chain commands) k s =
     record {
       sets = subst (AllByRecursion Set) (sym same.again) s.sets;
       fits = ap fit same.again ∙ s.fits;
-      emptied = λ ne. let e = s.emptied (λ o. ne (same.owed ∙ o)) in record { again = same.again ∙ e.again; spoken = same.spoken ∙ e.spoken; pinned = same.pinned ∙ e.pinned; sent = same.sent ∙ e.sent };
+      emptied = λ ne. let e = s.emptied (λ o. ne (same.owed ∙ o)) in record {
+        again = same.again ∙ e.again;
+        spoken = same.spoken
+            ∙ e.spoken;
+        pinned = same.pinned ∙ e.pinned;
+        sent = same.sent ∙ e.sent;
+      };
       front = λ o. finished_front name (settled name k2) (owed_front name k.owed k2 (sym same.owed ∙ o));
     }
-begin_sound name (Fault place error number) k s = record { sets = s.sets; fits = s.fits; emptied = λ ne. let e = s.emptied ne in record { again = e.again; spoken = e.spoken; pinned = e.pinned; sent = e.sent }; front = s.front }
-begin_sound name (TooLong number) k s = record { sets = s.sets; fits = s.fits; emptied = λ ne. let e = s.emptied ne in record { again = e.again; spoken = e.spoken; pinned = e.pinned; sent = e.sent }; front = s.front }
+begin_sound name (Fault place error number) k s = record {
+  sets = s.sets;
+  fits = s.fits;
+  emptied = λ ne. let e = s.emptied ne in record { again = e.again; spoken = e.spoken; pinned = e.pinned; sent = e.sent };
+  front = s.front;
+}
+begin_sound name (TooLong number) k s = record {
+  sets = s.sets;
+  fits = s.fits;
+  emptied = λ ne. let e = s.emptied ne in record {
+    again = e.again;
+    spoken = e.spoken;
+    pinned = e.pinned;
+    sent = e.sent;
+  };
+  front = s.front;
+}
 
 answer_sound : (name : List ℕ) (r : Stripped) (k : Core) → IsSound name k → k.owed ≡ Nothing → IsSound name (answered name r k).core
 unfolding answered
@@ -138,14 +165,31 @@ answer_sound name r k s owed = go (register_fault r k)
     go (Some why) = record { sets = a.sets; fits = a.fits; emptied = λ ne. absurd (ne nothing); front = λ o. refl }
 
 owes_sound : (name : List ℕ) (o : Owed) (k : Core) → (o ≡ Nothing → ⊥) → IsSound name (owes o k)
-owes_sound name o k isnt = record { sets = tt; fits = none_fit; emptied = λ ne. record { again = refl; spoken = refl; pinned = refl; sent = refl }; front = λ e. absurd (isnt e) }
+owes_sound name o k isnt = record {
+  sets = tt;
+  fits = none_fit;
+  emptied = λ ne. record { again = refl; spoken = refl; pinned = refl; sent = refl };
+  front = λ e. absurd (isnt e);
+}
 
 calm_sound : (name : List ℕ) (k : Core) → IsSound name k → IsSound name (record k { sent = false })
-calm_sound name k s = record { sets = s.sets; fits = s.fits; emptied = λ ne. let e = s.emptied ne in record { again = e.again; spoken = e.spoken; pinned = e.pinned; sent = refl }; front = s.front }
+calm_sound name k s = record {
+  sets = s.sets;
+  fits = s.fits;
+  emptied = λ ne. let e = s.emptied ne in record {
+    again = e.again;
+    spoken = e.spoken;
+    pinned = e.pinned;
+    sent = refl;
+  };
+  front = s.front;
+}
 
 lost_sound_owing : (name : List ℕ) (o : Owed) (k : Core) → IsSound name k → IsSound name (lost_owing o k)
-lost_sound_owing name Nothing k s = cond_both {A = Core} (commit_sent k) (owes Unknown k) (if k.spoken || k.pinned then owes Rerouted k else record k { sent = false }) (IsSound name)
-    (λ e. owes_sound name Unknown k unknown) (λ e. cond_both {A = Core} (k.spoken || k.pinned) (owes Rerouted k) (record k { sent = false }) (IsSound name) (λ t. owes_sound name Rerouted k rerouted) (λ t. calm_sound name k s))
+lost_sound_owing name Nothing k s = cond_both {A = Core} (commit_sent k) (owes Unknown k)
+    (if k.spoken || k.pinned then owes Rerouted k else record k { sent = false }) (IsSound name)
+    (λ e. owes_sound name Unknown k unknown) (λ e. cond_both {A = Core} (k.spoken || k.pinned) (owes Rerouted k) (record k { sent = false })
+    (IsSound name) (λ t. owes_sound name Rerouted k rerouted) (λ t. calm_sound name k s))
   where
     unknown : Unknown ≡ Nothing → ⊥
     unknown e = cc
@@ -163,15 +207,18 @@ accept_sound : (name : List ℕ) (k : Core) → IsSound name k → IsSound name 
 unfolding accepted
 accept_sound name k s = record { sets = s.sets; fits = s.fits; emptied = λ ne. absurd (ne refl); front = λ o. refl }
 
-run_sound : {S U : Type 0} (name : List ℕ) (m : Meaning S U) (s : S) (q : Session U) (cs : List Command) → IsSound name q.core → IsSound name (run_first m s q cs).core
+run_sound : {S U : Type 0} (name : List ℕ) (m : Meaning S U) (s : S) (q : Session U) (cs : List Command) → IsSound name q.core
+    → IsSound name (run_first m s q cs).core
 run_sound name m s q [] sound = sound
 run_sound name m s q (c ∷ cs) sound = sound
 
-late_sound : {S U : Type 0} (name : List ℕ) (m : Meaning S U) (s : S) (n : ℕ) (q : Session U) (u : U) (cs : List Command) → IsSound name q.core → IsSound name (run_late m s n q u cs).core
+late_sound : {S U : Type 0} (name : List ℕ) (m : Meaning S U) (s : S) (n : ℕ) (q : Session U) (u : U) (cs : List Command) → IsSound name q.core
+    → IsSound name (run_late m s n q u cs).core
 late_sound name m s n q u [] sound = sound
 late_sound name m s n q u (c ∷ cs) sound = sound
 
-ended_sound : (name : List ℕ) (k j : Core) → IsSound name k → j.again ≡ k.again → j.owed ≡ k.owed → j.spoken ≡ k.spoken → j.pinned ≡ k.pinned → j.sent ≡ k.sent → j.segments ≡ k.segments → j.standing ≡ k.standing → IsSound name j
+ended_sound : (name : List ℕ) (k j : Core) → IsSound name k → j.again ≡ k.again → j.owed ≡ k.owed → j.spoken ≡ k.spoken → j.pinned ≡ k.pinned
+    → j.sent ≡ k.sent → j.segments ≡ k.segments → j.standing ≡ k.standing → IsSound name j
 ended_sound name k j s ea eo es ep et eg est = record {
   sets = subst (AllByRecursion Set) (sym ea) s.sets;
   fits = ap fit ea ∙ s.fits;
@@ -179,7 +226,8 @@ ended_sound name k j s ea eo es ep et eg est = record {
   front = λ o. ap (λ gs. is_local name j.standing (first gs)) eg ∙ ap (λ st. is_local name st (first k.segments)) est ∙ s.front (sym eo ∙ o);
 }
 
-event_sound : {S U : Type 0} (name : List ℕ) (m : Meaning S U) (s : S) (q : Session U) (what : What) → IsSound name q.core → IsPossible q what → IsSound name (session_after name m s q what).core
+event_sound : {S U : Type 0} (name : List ℕ) (m : Meaning S U) (s : S) (q : Session U) (what : What) → IsSound name q.core → IsPossible q what
+    → IsSound name (session_after name m s q what).core
 unfolding none_left closed left
 event_sound name m s q (Begin reading) sound may = begin_sound name reading q.core sound
 event_sound name m s q Sent sound may = record { sets = sound.sets; fits = sound.fits; emptied = λ ne. absurd (ne may.owed); front = sound.front }
@@ -194,7 +242,8 @@ event_sound name m s q (Leave failed) sound may = ended_sound name q.core (left 
 
 -- ---- all events
 
-events_sound : {S U : Type 0} (name : List ℕ) (m : Meaning S U) (es : List Event) (p : State S U) → ((i : ℕ) → IsSound name (p.session i).core) → ArePossible name m p es → (i : ℕ) → IsSound name ((plain name m p es).session i).core
+events_sound : {S U : Type 0} (name : List ℕ) (m : Meaning S U) (es : List Event) (p : State S U) → ((i : ℕ) → IsSound name (p.session i).core)
+    → ArePossible name m p es → (i : ℕ) → IsSound name ((plain name m p es).session i).core
 events_sound name m [] p sound may i = sound i
 events_sound {U = U} name m (e ∷ es) p sound may i =
     events_sound name m es (after_event name m p e)

@@ -1,12 +1,14 @@
 -- What is told of a loss, what stays in work, and how many commits there are.
-use Rattle.std.proofs.Common.{◌≡◌, inl, inr, ℕ, suc, ◌||◌, Bool, true, false, if◌then◌else◌, List, [], ◌∷◌, length, Option, Some, None, is_some, ap, sym, refl, ◌∙◌, arith, true≢false}
+use Rattle.std.proofs.Common.{◌≡◌, inl, inr, ℕ, suc, ◌||◌, Bool, true, false, if◌then◌else◌, List, [], ◌∷◌, length, Option, Some, None, is_some, ap}
+use Rattle.std.proofs.Common.{sym, refl, ◌∙◌, arith, true≢false}
 use Rattle.std.proofs.lemmas.Bool.{cond_both, cond-false}
 use Rattle.unit_segments.specs.declared.command.Command.{Command}
 use Rattle.unit_segments.specs.Strip.{has_ended, is_committed}
 use Rattle.plain_model.specs.Group.{Meaning}
 use Rattle.plain_model.specs.Core.{Core, Owed, Nothing, Rerouted, Unknown}
 use Rattle.plain_model.specs.Lost.{commit_sent, owes, lost_owing, lost}
-use Rattle.plain_model.specs.Plain.{Session, Begin, Sent, Run, Answer, Lose, RunLate, Accept, NoneLeft, Close, Leave, segment_of, to_run, run_first, run_late, after_event}
+use Rattle.plain_model.specs.Plain.{Session, Begin, Sent, Run, Answer, Lose, RunLate, Accept, NoneLeft, Close, Leave, segment_of, to_run, run_first}
+use Rattle.plain_model.specs.Plain.{run_late, after_event}
 use Rattle.plain_model.specs.Told.{Outcome, Committed, RolledBack, Telling, UnitName, unit_before, told_by, committed_by, committed}
 use Rattle.plain_model.specs.InWork.{tells_loss, LossIsTold, StaysInWork, CanRunAgain, commit_events, AllAreCounted}
 
@@ -51,13 +53,16 @@ run_segments : {S U : Type 0} (m : Meaning S U) (s : S) (q : Session U) (cs : Li
 run_segments m s q [] = refl
 run_segments m s q (c ∷ cs) = refl
 
-late_segments : {S U : Type 0} (m : Meaning S U) (s : S) (n : ℕ) (q : Session U) (u : U) (cs : List Command) → (run_late m s n q u cs).core.segments ≡ q.core.segments
+late_segments : {S U : Type 0} (m : Meaning S U) (s : S) (n : ℕ) (q : Session U) (u : U) (cs : List Command)
+    → (run_late m s n q u cs).core.segments ≡ q.core.segments
 late_segments m s n q u [] = refl
 late_segments m s n q u (c ∷ cs) = refl
 
 lost_segments_owing : (o : Owed) (k : Core) → (lost_owing o k).segments ≡ k.segments
-lost_segments_owing Nothing k = cond_both {A = Core} (commit_sent k) (owes Unknown k) (if k.spoken || k.pinned then owes Rerouted k else record k { sent = false }) (λ j. j.segments ≡ k.segments)
-    (λ e. refl) (λ e. cond_both {A = Core} (k.spoken || k.pinned) (owes Rerouted k) (record k { sent = false }) (λ j. j.segments ≡ k.segments) (λ t. refl) (λ t. refl))
+lost_segments_owing Nothing k = cond_both {A = Core} (commit_sent k) (owes Unknown k)
+    (if k.spoken || k.pinned then owes Rerouted k else record k { sent = false }) (λ j. j.segments ≡ k.segments)
+    (λ e. refl) (λ e. cond_both {A = Core} (k.spoken || k.pinned) (owes Rerouted k) (record k { sent = false }) (λ j. j.segments ≡ k.segments)
+    (λ t. refl) (λ t. refl))
 lost_segments_owing Rerouted k = refl
 lost_segments_owing Unknown k = refl
 
@@ -81,7 +86,8 @@ pub can_run_again : CanRunAgain
 unfolding lost
 can_run_again k owed sent quiet =
     ap (λ o. (lost_owing o k).owed) owed
-    ∙ ap (λ (j : Core). j.owed) (cond-false (commit_sent k) (owes Unknown k) (if k.spoken || k.pinned then owes Rerouted k else record k { sent = false }) sent)
+    ∙ ap (λ (j : Core). j.owed) (cond-false (commit_sent k) (owes Unknown k)
+    (if k.spoken || k.pinned then owes Rerouted k else record k { sent = false }) sent)
     ∙ ap (λ (j : Core). j.owed) (cond-false (k.spoken || k.pinned) (owes Rerouted k) (record k { sent = false }) quiet)
     ∙ owed
 
@@ -94,5 +100,6 @@ one_more i (Some k) names n e = let more : suc (length names) ≡ suc n = ap suc
 pub all_are_counted : {S U : Type 0} (name : List ℕ) (m : Meaning S U) → AllAreCounted name m
 all_are_counted name m p [] = refl
 all_are_counted name m p (e ∷ es) =
-    one_more e.session (committed_by m p.shared (p.session e.session) e.what) (committed name m (after_event name m p e) es) (commit_events name m (after_event name m p e) es)
+    one_more e.session (committed_by m p.shared (p.session e.session) e.what) (committed name m (after_event name m p e) es) (commit_events name m
+    (after_event name m p e) es)
     (all_are_counted name m (after_event name m p e) es)

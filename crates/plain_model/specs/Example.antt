@@ -184,14 +184,15 @@ no_access_left = 0x00 ∷ 0x10 ∷ 0xD0 ∷ 0x02 ∷ 0x00 ∷ 0x01 ∷ 0x00 ∷ 
 
 -- ---- a case
 
--- What session 1 is sent, how often its first unit is committed and what is told of it, how many commits the data count, and
--- how many commands its unit then has.
-pub record Comes (whats : List What) (out : List ℕ) (commits : ℕ) (outcome : Option Outcome) (shared ran : ℕ) : Type 0 where
+-- What session 1 is sent, how often its first unit is committed and what is told of it, how many commits the data count, how
+-- many commands the unit of its conversation then has, and the number of the unit in work.
+pub record Comes (whats : List What) (out : List ℕ) (commits : ℕ) (outcome : Option Outcome) (shared ran unit : ℕ) : Type 0 where
   pub sent : out_of (plain sample example (start example 0) (events whats)) 1 ≡ out
   pub committed_times : commits_of 1 1 (committed sample example (start example 0) (events whats)) ≡ commits
   pub is_told : told sample example (start example 0) (events whats) 1 1 ≡ outcome
   pub data_are : (plain sample example (start example 0) (events whats)).shared ≡ shared
   pub unit_is : ((plain sample example (start example 0) (events whats)).session 1).held.ran ≡ ran
+  pub in_work : ((plain sample example (start example 0) (events whats)).session 1).core.unit ≡ unit
 
 -- ---- more commands, and what they are answered
 

@@ -134,7 +134,8 @@ pub record Laws {S U : Type 0} (m : Meaning S U) (v : Values S U) : Type 0 where
   pub answered : AlwaysBoth v (λ s u c. AreReplies c (m.replies s u c))
   -- only a commit that is done changes the data, and no other end of a unit is a commit
   pub data_stay : AlwaysBoth v (λ s u c. commits c (m.replies s u c) ≡ false → m.data_after s u c ≡ s)
-  pub nothing_else_commits : AlwaysBoth v (λ s u c. ends_unit (class_of c.code) ≡ true → (c.code == rdbcmm) ≡ false → says_committed (m.replies s u c) ≡ false)
+  pub nothing_else_commits : AlwaysBoth v (λ s u c. ends_unit (class_of c.code) ≡ true → (c.code == rdbcmm) ≡ false
+      → says_committed (m.replies s u c) ≡ false)
   -- asking changes neither the data nor the rest of the replies, nor the unit where release isn't granted
   pub asking_same_data : Always v (λ s u c. m.data_after s u (asked c) ≡ m.data_after s u (unasked c))
   pub asking_same_replies : Always v (λ s u c. without_asked c (m.replies s u (asked c)) ≡ without_asked c (m.replies s u (unasked c)))

@@ -14,7 +14,8 @@ use Rattle.reply_texts.specs.Sqlcard.{sqlcard_object}
 use Rattle.reply_texts.specs.Closing.{last, ended_card}
 use Rattle.access_handshake.specs.declared.stage.Stage.{Stage}
 use Rattle.access_handshake.specs.declared.stage.Stage.TheVariants.{New, Attached, Chosen, Checked, Accessed}
-use Rattle.plain_model.specs.Core.{Core, After, Owed, Nothing, Rerouted, Unknown, End, AppEnded, AppFault, NoMember, Limit, LimitKind, first, first_number, has_commit, still, finished, ends_with}
+use Rattle.plain_model.specs.Core.{Core, After, Owed, Nothing, Rerouted, Unknown, End, AppEnded, AppFault, NoMember, Limit, LimitKind, first}
+use Rattle.plain_model.specs.Core.{first_number, has_commit, still, finished, ends_with}
 
 -- ---- the loss
 

@@ -11,56 +11,56 @@ ghost use Rattle.plain_model.specs.Example.{Comes, unknown_first, excsat_second,
 
 /// Units that end as they are asked to.
 pub fn units_that_end()
-    ensures committed { Comes (access ++ runs insert ++ runs commit) (welcome ++ done ++ unit_ended 1) 1 (Some Committed) 1 0 }
-    ensures rolled_back { Comes (access ++ runs insert ++ runs roll_back) (welcome ++ done ++ unit_ended 2) 0 (Some RolledBack) 0 0 }
+    ensures committed { Comes (access ++ runs insert ++ runs commit) (welcome ++ done ++ unit_ended 1) 1 (Some Committed) 1 0 2 }
+    ensures rolled_back { Comes (access ++ runs insert ++ runs roll_back) (welcome ++ done ++ unit_ended 2) 0 (Some RolledBack) 0 0 2 }
 {}
 
 /// A conversation is lost before its unit has answered anything, and behind an answer that can't be run again.
 pub fn losses_of_work()
-    ensures unanswered { Comes (access ++ Begin (Chain (insert ∷ [])) ∷ Sent ∷ Lose ∷ one_command) (welcome ++ done) 0 None 0 1 }
+    ensures unanswered { Comes (access ++ Begin (Chain (insert ∷ [])) ∷ Sent ∷ Lose ∷ one_command) (welcome ++ done) 0 None 0 1 1 }
     ensures answered { Comes (access ++ runs insert ++ Lose ∷ Begin (Chain (insert ∷ [])) ∷ Accept ∷ [])
-        (welcome ++ done ++ rerouted) 0 (Some ToldRerouted) 0 0 }
+        (welcome ++ done ++ rerouted) 0 (Some ToldRerouted) 0 0 2 }
     ensures not_released { Comes (access ++ runs open_cursor ++ runs commit ++ Lose ∷ Begin (Chain (insert ∷ [])) ∷ Accept ∷ [])
-        (welcome ++ done ++ unit_ended 1 ++ rerouted) 1 (Some Committed) 1 0 }
+        (welcome ++ done ++ unit_ended 1 ++ rerouted) 1 (Some Committed) 1 0 3 }
     ensures lost_twice { Comes (access ++ runs insert ++ Lose ∷ Begin (Chain (insert ∷ [])) ∷ Lose ∷ Accept ∷ [])
-        (welcome ++ done ++ rerouted) 0 (Some ToldRerouted) 0 0 }
+        (welcome ++ done ++ rerouted) 0 (Some ToldRerouted) 0 0 2 }
 {}
 
 /// A commit was sent when the conversation was lost: it is done, or it isn't.
 pub fn losses_of_commits()
     ensures done { Comes (access ++ runs insert ++ Begin (Chain (commit ∷ [])) ∷ Sent ∷ Lose ∷ RunLate 1 ∷ Accept ∷ [])
-        (welcome ++ done ++ unknown) 1 (Some ToldUnknown) 1 0 }
+        (welcome ++ done ++ unknown) 1 (Some ToldUnknown) 1 0 2 }
     ensures not_done { Comes (access ++ runs insert ++ Begin (Chain (commit ∷ [])) ∷ Sent ∷ Lose ∷ Accept ∷ [])
-        (welcome ++ done ++ unknown) 0 (Some ToldUnknown) 0 0 }
+        (welcome ++ done ++ unknown) 0 (Some ToldUnknown) 0 0 2 }
     ensures not_sent { Comes (access ++ runs insert ++ Begin (Chain (commit ∷ [])) ∷ Lose ∷ Accept ∷ [])
-        (welcome ++ done ++ rerouted) 0 (Some ToldRerouted) 0 0 }
-    ensures replies_lost { Comes (access ++ Begin (Chain (commit ∷ [])) ∷ Sent ∷ Run ∷ Lose ∷ Accept ∷ []) (welcome ++ unknown) 1 (Some ToldUnknown) 1 0 }
-    ensures lost_twice { Comes (access ++ Begin (Chain (commit ∷ [])) ∷ Sent ∷ Lose ∷ Lose ∷ Accept ∷ []) (welcome ++ unknown) 0 (Some ToldUnknown) 0 0 }
+        (welcome ++ done ++ rerouted) 0 (Some ToldRerouted) 0 0 2 }
+    ensures replies_lost { Comes (access ++ Begin (Chain (commit ∷ [])) ∷ Sent ∷ Run ∷ Lose ∷ Accept ∷ []) (welcome ++ unknown) 1 (Some ToldUnknown) 1 0 2 }
+    ensures lost_twice { Comes (access ++ Begin (Chain (commit ∷ [])) ∷ Sent ∷ Lose ∷ Lose ∷ Accept ∷ []) (welcome ++ unknown) 0 (Some ToldUnknown) 0 0 2 }
 {}
 
 /// No member is left: with an error owed, with none, and before the database was accessed.
 pub fn no_member_is_left()
     ensures owed { Comes (access ++ runs insert ++ Lose ∷ Begin (Chain (insert ∷ [])) ∷ NoneLeft ∷ [])
-        (welcome ++ done ++ ended) 0 (Some ToldRerouted) 0 0 }
+        (welcome ++ done ++ ended) 0 (Some ToldRerouted) 0 0 2 }
     ensures owed_unknown { Comes (access ++ Begin (Chain (commit ∷ [])) ∷ Sent ∷ Lose ∷ NoneLeft ∷ [])
-        (welcome ++ ended_unknown) 0 (Some ToldUnknown) 0 0 }
-    ensures not_owed { Comes (access ++ Begin (Chain (insert ∷ [])) ∷ NoneLeft ∷ []) (welcome ++ ended) 0 (Some ToldRerouted) 0 0 }
-    ensures before_access { Comes (begins ++ NoneLeft ∷ []) (greeting ++ no_access_left) 0 None 0 0 }
+        (welcome ++ ended_unknown) 0 (Some ToldUnknown) 0 0 2 }
+    ensures not_owed { Comes (access ++ Begin (Chain (insert ∷ [])) ∷ NoneLeft ∷ []) (welcome ++ ended) 0 (Some ToldRerouted) 0 0 1 }
+    ensures before_access { Comes (begins ++ NoneLeft ∷ []) (greeting ++ no_access_left) 0 None 0 0 1 }
 {}
 
 /// SET statements run again without a word, up to 64 of them; one more, and the unit can't be run again.
 pub fn sets_run_again()
-    ensures one { Comes (access ++ runs set ++ Lose ∷ runs insert) (welcome ++ done ++ done) 0 None 0 2 }
+    ensures one { Comes (access ++ runs set ++ Lose ∷ runs insert) (welcome ++ done ++ done) 0 None 0 2 1 }
     ensures most { Comes (access ++ Begin (Chain (replicate 64 set)) ∷ Sent ∷ replicate 64 Run ++ Answer ∷ Lose ∷ runs insert)
-        (welcome ++ sets_done ++ done) 0 None 0 65 }
+        (welcome ++ sets_done ++ done) 0 None 0 65 1 }
     ensures one_more { Comes (access ++ Begin (Chain (replicate 64 set)) ∷ Sent ∷ replicate 64 Run ++ Answer ∷ runs set
-        ++ Lose ∷ Begin (Chain (insert ∷ [])) ∷ Accept ∷ []) (welcome ++ sets_done ++ done ++ rerouted) 0 (Some ToldRerouted) 0 0 }
+        ++ Lose ∷ Begin (Chain (insert ∷ [])) ∷ Accept ∷ []) (welcome ++ sets_done ++ done ++ rerouted) 0 (Some ToldRerouted) 0 0 2 }
 {}
 
 /// What the gateway itself answers: a code point that is no command, after which the chain goes on, or doesn't; and a command
 /// that isn't allowed yet.
 pub fn local_answers()
-    ensures goes_on { Comes (Begin (Chain (unknown_first true ∷ excsat_second ∷ [])) ∷ []) (cmdnsp_reply true ++ excsat_reply) 0 None 0 0 }
-    ensures stops { Comes (Begin (Chain (unknown_first false ∷ excsat_second ∷ [])) ∷ []) (cmdnsp_reply false) 0 None 0 0 }
-    ensures not_allowed { Comes (Begin (Chain (commit ∷ [])) ∷ []) prccnv_reply 0 None 0 0 }
+    ensures goes_on { Comes (Begin (Chain (unknown_first true ∷ excsat_second ∷ [])) ∷ []) (cmdnsp_reply true ++ excsat_reply) 0 None 0 0 1 }
+    ensures stops { Comes (Begin (Chain (unknown_first false ∷ excsat_second ∷ [])) ∷ []) (cmdnsp_reply false) 0 None 0 0 1 }
+    ensures not_allowed { Comes (Begin (Chain (commit ∷ [])) ∷ []) prccnv_reply 0 None 0 0 1 }
 {}
