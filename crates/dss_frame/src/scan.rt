@@ -111,6 +111,10 @@ impl Scanner {
         let (first, rest) = piece.split_at(lacks);
         unread.push_all(first)?;
         let scan = self.scan(room, unread.as_slice(), whole)?;
+        if rest.is_empty() {
+            unread.keep_from(scan.begins);
+            return Ok(scan);
+        }
         if scan.fault.is_some() {
             unread.keep_from(scan.begins);
             return Ok(scan);

@@ -67,6 +67,9 @@ impl Unread {
         requires { begins ≤ length self.old }
         ensures { self.new ≡ drop begins self.old }
     {
+        if begins == 0 {
+            return;
+        }
         let left = self.bytes.len() - begins;
         self.bytes.copy_within(begins.., 0);
         self.bytes.truncate(left);

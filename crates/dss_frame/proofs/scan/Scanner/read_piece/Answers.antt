@@ -1,9 +1,12 @@
-use Rattle.std.proofs.Common.{◌≡◌, ℕ, ◌+◌, ◌-◌, ◌≤◌, List, [], ◌++◌, length, take, drop, refl, sym, ap, subst, ◌∙◌, arith, rules}
+use Rattle.std.proofs.Common.{◌≡◌, ℕ, ◌+◌, ◌-◌, ◌≤◌, List, [], ◌++◌, length, take, drop, append-nil, refl, sym, ap, subst, ◌∙◌, arith, rules}
 use Rattle.std.proofs.lemmas.List.{take-append-drop, take_rest, drop_all, drop-drop, drop-append-le}
 use Rattle.dss_frame.specs.Walk.{walked_to, IsWalked}
 use Rattle.dss_frame.specs.Scan.{at_position, Extends}
+use Rattle.std.proofs.lemmas.Bool.{eqb-true}
+use Rattle.link_ends.proofs.Lists.{no_items}
+use Rattle.dss_frame.specs.Reading.{View, fed}
 use Rattle.dss_frame.proofs.Loops.Extending.{Extends-on}
-use Rattle.dss_frame.proofs.Loops.Scan.{fed_twice, no_fault, stopped_within}
+use Rattle.dss_frame.proofs.Loops.Scan.{fed_left, fed_twice, no_fault, stopped_within}
 use Rattle.dss_frame.proofs.Loops.Walk.{none_walked, walked_empty, walked_before, walked_within}
 use Rattle.dss_frame.proofs.scan.Scanner.read_piece.Goals as goal
 
@@ -22,6 +25,20 @@ slice_bounds-lacking-start c =
     let within = walked_within c.args.unread.now in
     search rules
 
+pub returns-then-is_empty-clause-ok : goal.returns-then-is_empty-clause-ok
+returns-then-is_empty-clause-ok c =
+    let v : View = at_position c.args.self.side c.args.self.limit c.args.self.position c.args.whole.now.items c.args.unread.now in
+    let first : List ℕ = c.split_at.result.0.now in
+    let rest : List ℕ = c.split_at.result.1.now in
+    let none : rest ≡ [] = no_items rest (omega (arith, eqb-true (length rest) 0 (sym c.is_empty.ensures ∙ c.if-is_empty.true))) in
+    let cut : first ++ rest ≡ c.args.piece.now =
+    ap (λ (xs : List ℕ). xs ++ rest) c.split_at.ensures.front
+    ∙ ap (λ (xs : List ℕ). take c.lacking-lacks.result c.args.piece.now ++ xs) c.split_at.ensures.back
+    ∙ take-append-drop c.lacking-lacks.result c.args.piece.now in
+    fed_left v first c.as_slice-2.result.now c.keep_from.new.self c.scan.new.whole.items c.in_ok-scan.scan refl
+    (c.as_slice-2.ensures ∙ c.in_ok-push_all.ensures.ok) c.in_ok-scan.ensures.ok (c.keep_from.ensures ∙ ap (drop c.in_ok-scan.scan.begins) (sym c.as_slice-2.ensures))
+    ∙ ap (fed v) (sym (append-nil first) ∙ ap (λ (xs : List ℕ). first ++ xs) (sym none) ∙ cut)
+
 pub returns-then-is_some-clause-ok : goal.returns-then-is_some-clause-ok
 returns-then-is_some-clause-ok c =
     let first : List ℕ = c.split_at.result.0.now in
@@ -31,9 +48,9 @@ returns-then-is_some-clause-ok c =
     ∙ ap (λ (xs : List ℕ). take c.lacking-lacks.result c.args.piece.now ++ xs) c.split_at.ensures.back
     ∙ take-append-drop c.lacking-lacks.result c.args.piece.now in
     stopped_within (at_position c.args.self.side c.args.self.limit c.args.self.position c.args.whole.now.items c.args.unread.now) first rest c.args.piece.now
-    c.as_slice-2.result.now c.keep_from.new.self c.scan.new.whole.items c.in_ok-scan.scan
+    c.as_slice-2.result.now c.keep_from-then-is_some.new.self c.scan.new.whole.items c.in_ok-scan.scan
     refl cut (sym c.is_some.ensures ∙ c.if-is_some.true) (c.as_slice-2.ensures ∙ c.in_ok-push_all.ensures.ok) c.in_ok-scan.ensures.ok
-    (c.keep_from.ensures ∙ ap (drop c.in_ok-scan.scan.begins) (sym c.as_slice-2.ensures))
+    (c.keep_from-then-is_some.ensures ∙ ap (drop c.in_ok-scan.scan.begins) (sym c.as_slice-2.ensures))
 
 pub scan-requires-then-scan-len : goal.scan-requires-then-scan-len
 scan-requires-then-scan-len c =
