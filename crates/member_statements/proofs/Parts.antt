@@ -1,5 +1,6 @@
 -- Fronts and ends of texts, and the first place of a byte.
-use Rattle.std.specs.Prelude.{ℕ, ◌≡◌, ◌+◌, ◌-◌, ◌==◌, ◌<◌, not, Bool, true, false, List, [], ◌∷◌, ◌++◌, Option, Some, None, length, take, drop, bytes_eq, unwrap_or, option_and_then}
+use Rattle.std.specs.Prelude.{ℕ, ◌≡◌, ◌+◌, ◌-◌, ◌==◌, ◌<◌, not, Bool, true, false, List, [], ◌∷◌, ◌++◌, Option, Some, None, length, take, drop}
+use Rattle.std.specs.Prelude.{bytes_eq, unwrap_or, option_and_then}
 use Rattle.std.specs.List.{position_or_len, prefix_len, list_all}
 use Rattle.std.proofs.Common.{arith, refl, sym, ap, ◌∙◌, append_assoc}
 use Rattle.std.proofs.Math.ListN.{take-append-drop, length-append}

@@ -1,5 +1,6 @@
 -- What is read as a statement spells it.
-use Rattle.std.specs.Prelude.{ℕ, ◌≡◌, ◌+◌, ◌/◌, ◌%◌, ◌<◌, ◌==◌, ◌≤◌, ◌&&◌, Bool, true, false, if◌then◌else◌, List, [], ◌∷◌, ◌++◌, codes, length, take, drop, IsTrue, bytes_eq}
+use Rattle.std.specs.Prelude.{ℕ, ◌≡◌, ◌+◌, ◌/◌, ◌%◌, ◌<◌, ◌==◌, ◌≤◌, ◌&&◌, Bool, true, false, if◌then◌else◌, List, [], ◌∷◌, ◌++◌, codes, length, take}
+use Rattle.std.specs.Prelude.{drop, IsTrue, bytes_eq}
 use Rattle.std.specs.Prelude.{Option, Some, None, option_and_then, unwrap_or}
 use Rattle.std.proofs.Common.{arith, refl, sym, ap, subst, ◌∙◌, append_assoc}
 use Rattle.std.proofs.Math.ListN.{take-append-drop}
@@ -10,7 +11,8 @@ use Rattle.member_statements.specs.declared.register.Register.{Register}
 use Rattle.member_statements.specs.declared.register.Register.TheVariants.{Schema, Degree, Path, Numbered}
 use Rattle.member_statements.specs.Register.{IsRegister, register_name, decimal, digit}
 use Rattle.member_statements.specs.Statement.{is_key, number_of, is_inner_text, quote, SpellsKey, insert_text, select_text, Spells}
-use Rattle.member_statements.specs.Reading.{after, ahead_of, between, place_of, comma, equals, insert_of, some_insert, some_update, update_of, delete_of, is_register_number, numbered_of, register_of, set_by, some_set, set_of, by_form, statement_of}
+use Rattle.member_statements.specs.Reading.{after, ahead_of, between, place_of, comma, equals, insert_of, some_insert, some_update, update_of}
+use Rattle.member_statements.specs.Reading.{delete_of, is_register_number, numbered_of, register_of, set_by, some_set, set_of, by_form, statement_of}
 use Rattle.member_statements.proofs.Parts.{after_splits, ahead_of_splits, between_splits}
 
 -- a form is read where its first words stand, and the others elsewhere

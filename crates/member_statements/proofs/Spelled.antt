@@ -1,5 +1,6 @@
 -- What spells a statement is read as it.
-use Rattle.std.specs.Prelude.{ℕ, ◌≡◌, ◌+◌, ◌-◌, ◌*◌, ◌/◌, ◌%◌, ◌<◌, ◌≤◌, ◌==◌, ◌&&◌, not, nat_lt, Bool, true, false, if◌then◌else◌, List, [], ◌∷◌, ◌++◌, codes, length, take, drop, IsTrue}
+use Rattle.std.specs.Prelude.{ℕ, ◌≡◌, ◌+◌, ◌-◌, ◌*◌, ◌/◌, ◌%◌, ◌<◌, ◌≤◌, ◌==◌, ◌&&◌, not, nat_lt, Bool, true, false, if◌then◌else◌, List, [], ◌∷◌}
+use Rattle.std.specs.Prelude.{◌++◌, codes, length, take, drop, IsTrue}
 use Rattle.std.specs.Prelude.{Option, Some, None, option_and_then, unwrap_or, is_some}
 use Rattle.std.specs.List.{list_all}
 use Rattle.std.proofs.Common.{arith, refl, sym, ap, subst, ◌∙◌, append_assoc}
@@ -10,8 +11,10 @@ use Rattle.member_statements.specs.declared.statement.Statement.TheVariants.{Ins
 use Rattle.member_statements.specs.declared.register.Register.{Register}
 use Rattle.member_statements.specs.declared.register.Register.TheVariants.{Schema, Degree, Path, Numbered}
 use Rattle.member_statements.specs.Register.{IsRegister, register_name, decimal, digit, set_text}
-use Rattle.member_statements.specs.Statement.{is_digit, is_key, number_of, is_inner, is_inner_text, quote, SpellsKey, insert_text, update_text, delete_text, select_text, Spells}
-use Rattle.member_statements.specs.Reading.{after, ahead_of, between, place_of, comma, equals, insert_of, some_insert, update_of, some_update, delete_of, is_register_number, numbered_of, register_of, set_of, set_by, some_set, by_form, statement_of}
+use Rattle.member_statements.specs.Statement.{is_digit, is_key, number_of, is_inner, is_inner_text, quote, SpellsKey, insert_text, update_text}
+use Rattle.member_statements.specs.Statement.{delete_text, select_text, Spells}
+use Rattle.member_statements.specs.Reading.{after, ahead_of, between, place_of, comma, equals, insert_of, some_insert, update_of, some_update}
+use Rattle.member_statements.specs.Reading.{delete_of, is_register_number, numbered_of, register_of, set_of, set_by, some_set, by_form, statement_of}
 use Rattle.member_statements.proofs.Parts.{bytes_eq-refl, after-append, ahead_of-append, between-append, place_of-append}
 use Rattle.member_statements.proofs.Read.{regroup_two, regroup_three, regroup_set}
 

@@ -2,7 +2,8 @@ ghost use Rattle.std.specs.Prelude.{◌≡◌, ◌≤◌, ◌==◌, IfOk, fold, 
 ghost use Rattle.std.specs.Option.{option_copied};
 ghost use Rattle.std.specs.List.{list_all};
 ghost use Rattle.member_statements.specs.Statement.{is_digit, with_digit, number_of, is_key, is_inner, is_inner_text, quote};
-ghost use Rattle.member_statements.specs.Reading.{after, ahead_of, between, place_of, comma, equals, insert_of, update_of, delete_of, is_register_number, numbered_of, register_of, set_of, some_set, statement_of};
+ghost use Rattle.member_statements.specs.Reading.{after, ahead_of, between, place_of, comma, equals, insert_of, update_of, delete_of};
+ghost use Rattle.member_statements.specs.Reading.{is_register_number, numbered_of, register_of, set_of, some_set, statement_of};
 
 use crate::register::Register;
 use crate::statement::{MOST_DIGITS, MOST_TEXT, Statement};

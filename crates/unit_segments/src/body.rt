@@ -1,6 +1,7 @@
 ghost use Rattle.std.specs.Prelude.{◌≡◌, ◌≤◌, ◌-◌, length, option_map};
 ghost use Rattle.ddm_objects.specs.Members.{IsMembers, members_of};
-ghost use Rattle.unit_segments.specs.Command.{code_of, data_of, body_fault, params_fault, has_needed, has, has_two_bytes, parameter, is_looked_into, object_error};
+ghost use Rattle.unit_segments.specs.Command.{code_of, data_of, body_fault, params_fault, has_needed, has, has_two_bytes, parameter, is_looked_into};
+ghost use Rattle.unit_segments.specs.Command.{object_error};
 ghost use Rattle.ddm_codepoints.specs.CodePoint.{secmec};
 ghost use Rattle.unit_segments.specs.Body.{seen_fault, seen_object_fault};
 

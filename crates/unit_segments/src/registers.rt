@@ -1,5 +1,6 @@
 ghost use Rattle.std.specs.Prelude.{◌≡◌, ◌==◌, ◌+◌, ◌≤◌, ◌&&◌, not, nat_lt, nat_le, [], length, position, Ok, IfOk, IfErr, OnOk, OnErr};
-ghost use Rattle.unit_segments.specs.Registers.{most_registers, most_text, set_of, equals_sign, key_of, has_key, with_register, with_set, set_command, log_bytes, IsRefusal};
+ghost use Rattle.unit_segments.specs.Registers.{most_registers, most_text, set_of, equals_sign, key_of, has_key, with_register, with_set};
+ghost use Rattle.unit_segments.specs.Registers.{set_command, log_bytes, IsRefusal};
 ghost use Rattle.std.specs.List.{before_first};
 ghost use Rattle.ddm_objects.specs.Objects.{canonical_object, greatest_extended};
 ghost use Rattle.unit_segments.specs.SeenStatement.{seen_statement};

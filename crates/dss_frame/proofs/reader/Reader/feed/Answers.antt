@@ -27,8 +27,10 @@ invariant_of-self-in-Some-fault c = (
 
 pub returns-clause-ok : goal.returns-clause-ok
 returns-clause-ok c =
+    let r = c.self.inside in
+    let v : View = at_position r.side r.limit r.position r.whole.items r.unread in
     c.in-Ok.ensures.ok
-    ∙ ap (λ (o : Option StreamFault). fed (record (at_position c.self.inside.side c.self.inside.limit c.self.inside.position c.self.inside.whole.items c.self.inside.unread) { fault = o }) c.args.piece.now) (sym c.in_default.is)
+    ∙ ap (λ (o : Option StreamFault). fed (record v { fault = o }) c.args.piece.now) (sym c.in_default.is)
     ∙ ap (λ (w : View). fed w c.args.piece.now) c.self.view_is
 
 pub returns-in-Some-fault-clause-err : goal.returns-in-Some-fault-clause-err
