@@ -48,7 +48,8 @@ insert_spelled bytes rest statement front is =
           → option_and_then (some_insert (take (place_of comma rest) rest)) text ≡ Some statement → Spells bytes statement
       parts None was read = absurd (grind (arith, read))
       parts (Some text) was read =
-          chosen (is_key (take (place_of comma rest) rest)) (is_inner_text text) (Insert (number_of (take (place_of comma rest) rest)) text) statement (Spells bytes) read
+          chosen (is_key (take (place_of comma rest) rest)) (is_inner_text text) (Insert (number_of (take (place_of comma rest) rest)) text)
+          statement (Spells bytes) read
           (λ key inner. (
             take (place_of comma rest) rest,
             record { some = key; value = refl },
@@ -67,7 +68,8 @@ update_spelled bytes rest statement front is =
           → option_and_then (some_update (take (place_of quote rest) rest)) digits ≡ Some statement → Spells bytes statement
       parts None was read = absurd (grind (arith, read))
       parts (Some digits) was read =
-          chosen (is_key digits) (is_inner_text (take (place_of quote rest) rest)) (Update (number_of digits) (take (place_of quote rest) rest)) statement (Spells bytes) read
+          chosen (is_key digits) (is_inner_text (take (place_of quote rest) rest)) (Update (number_of digits) (take (place_of quote rest) rest))
+          statement (Spells bytes) read
           (λ key inner. (
             digits,
             record { some = key; value = refl },

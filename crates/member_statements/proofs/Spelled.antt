@@ -107,7 +107,8 @@ set_read register value is inner =
 pub spelled_is_read : (bytes : List ℕ) (statement : Statement) → Spells bytes statement → statement_of bytes ≡ Some statement
 unfolding statement_of
 spelled_is_read bytes (Insert key text) spells =
-    subst (λ b. statement_of b ≡ Some (Insert key text)) (sym (spells.3 ∙ sym (regroup_three (codes "INSERT INTO T VALUES (") spells.0 (codes ", '") text (codes "')"))))
+    subst (λ b. statement_of b ≡ Some (Insert key text))
+    (sym (spells.3 ∙ sym (regroup_three (codes "INSERT INTO T VALUES (") spells.0 (codes ", '") text (codes "')"))))
     (insert_read spells.0 text spells.1.some spells.2 ∙ ap (λ k. Some (Insert k text)) spells.1.value)
 spelled_is_read bytes (Update key text) spells =
     subst (λ b. statement_of b ≡ Some (Update key text)) (sym (spells.3 ∙ sym (regroup_two (codes "UPDATE T SET V = '") text (codes "' WHERE K = ") spells.0)))

@@ -58,8 +58,12 @@ stands_by b bytes object rest (Ok found) is e after =
     let size = found_size 0 (b ∷ bytes) found is in
     record {
       kept = λ count dropped. ap (λ (x : Result Found ObjFault). kept_by dropped (b ∷ bytes) x (kept_within count dropped)) is
-          ∙ ap (λ (m : Member). (if dropped m.code then [] else take (length (b ∷ bytes) - length found.rest) (b ∷ bytes)) ++ kept_within count dropped found.rest) (sym same)
-          ∙ ap (λ (xs : List ℕ). (if dropped object.code then [] else take (length (b ∷ bytes) - length xs) (b ∷ bytes)) ++ kept_within count dropped xs) (sym rest_is);
+          ∙ ap (λ (m : Member). (if dropped m.code then [] else take (length (b ∷ bytes) - length found.rest) (b ∷ bytes))
+          ++ kept_within count dropped found.rest)
+          (sym same)
+          ∙ ap (λ (xs : List ℕ). (if dropped object.code then [] else take (length (b ∷ bytes) - length xs) (b ∷ bytes))
+          ++ kept_within count dropped xs)
+          (sym rest_is);
       less = omega (arith, size, ap length rest_is);
     }
   where

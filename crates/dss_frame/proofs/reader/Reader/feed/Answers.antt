@@ -35,9 +35,11 @@ returns-clause-ok c =
 
 pub returns-in-Some-fault-clause-err : goal.returns-in-Some-fault-clause-err
 returns-in-Some-fault-clause-err c =
+    let r = c.self.inside in
+    let v : View = at_position r.side r.limit r.position r.whole.items r.unread in
     let left =
     c.in-Ok.ensures.ok
-    ∙ ap (λ (o : Option StreamFault). fed (record (at_position c.self.inside.side c.self.inside.limit c.self.inside.position c.self.inside.whole.items c.self.inside.unread) { fault = o }) c.args.piece.now) (sym c.in_default.is)
+    ∙ ap (λ (o : Option StreamFault). fed (record v { fault = o }) c.args.piece.now) (sym c.in_default.is)
     ∙ ap (λ (w : View). fed w c.args.piece.now) c.self.view_is in
     let new : View = record {
       side = c.self.inside.side;

@@ -36,7 +36,8 @@ returns-then-is_empty-clause-ok c =
     ∙ ap (λ (xs : List ℕ). take c.lacking-lacks.result c.args.piece.now ++ xs) c.split_at.ensures.back
     ∙ take-append-drop c.lacking-lacks.result c.args.piece.now in
     fed_left v first c.as_slice-2.result.now c.keep_from.new.self c.scan.new.whole.items c.in_ok-scan.scan refl
-    (c.as_slice-2.ensures ∙ c.in_ok-push_all.ensures.ok) c.in_ok-scan.ensures.ok (c.keep_from.ensures ∙ ap (drop c.in_ok-scan.scan.begins) (sym c.as_slice-2.ensures))
+    (c.as_slice-2.ensures ∙ c.in_ok-push_all.ensures.ok) c.in_ok-scan.ensures.ok
+    (c.keep_from.ensures ∙ ap (drop c.in_ok-scan.scan.begins) (sym c.as_slice-2.ensures))
     ∙ ap (fed v) (sym (append-nil first) ∙ ap (λ (xs : List ℕ). first ++ xs) (sym none) ∙ cut)
 
 pub returns-then-is_some-clause-ok : goal.returns-then-is_some-clause-ok
