@@ -14,7 +14,7 @@ use Rattle.plain_model.proofs.Accounts.{Account, note, tell, Fits, books_ended}
 use Rattle.plain_model.proofs.Cores.{is_bereft, IsAnswered, answered_is}
 use Rattle.plain_model.proofs.Facts.{Fact, FactOf, works_start, books_with, same_unit}
 
-seen_ended : (g : List Command) (part asking : List Dss) → (seen g part asking).ended ≡ has_ended g part
+pub seen_ended : (g : List Command) (part asking : List Dss) → (seen g part asking).ended ≡ has_ended g part
 unfolding stripped
 seen_ended g part asking = refl
 

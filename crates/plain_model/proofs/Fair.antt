@@ -201,7 +201,7 @@ told_are name m (e ∷ es) p ls i n =
 
 -- ---- from the beginning
 
-start_holds : {S U : Type 0} {m : Meaning S U} {v : Values S U} → Laws m v → Holds v (new_session m) new_account
+pub start_holds : {S U : Type 0} {m : Meaning S U} {v : Values S U} → Laws m v → Holds v (new_session m) new_account
 start_holds laws = record {
   values = record { held = laws.base_unit attached; in_flight = λ n. laws.base_unit attached };
   fact = record {

@@ -14,3 +14,6 @@ pub mod Keeps
 pub mod Fair
 pub mod Staying
 pub mod Sounding
+pub mod Staged
+pub mod Leading
+pub mod Repeating

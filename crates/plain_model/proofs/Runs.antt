@@ -25,13 +25,13 @@ use Rattle.plain_model.proofs.Facts.{Fact, Works}
 
 -- ---- a command without asking
 
-without_code : (c : Command) → (unasked c).code ≡ c.code
+pub without_code : (c : Command) → (unasked c).code ≡ c.code
 without_code c = cond_both {A = Command} (ends_unit (class_of c.code)) (record c {
   body = canonical_object (code_of c.body) (kept_members is_asking
       (data_of c.body));
 }) c (λ d. d.code ≡ c.code) (λ e. refl) (λ e. refl)
 
-without_number : (c : Command) → (unasked c).corr ≡ c.corr
+pub without_number : (c : Command) → (unasked c).corr ≡ c.corr
 without_number c = cond_both {A = Command} (ends_unit (class_of c.code)) (record c {
   body = canonical_object (code_of c.body)
       (kept_members is_asking (data_of c.body));

@@ -9,7 +9,7 @@ use Rattle.plain_model.specs.Core.{has_commit}
 use Rattle.plain_model.specs.Plain.{Session, InFlight, put, run_late}
 use Rattle.plain_model.specs.Told.{run_commits}
 use Rattle.plain_model.proofs.Puts.{by_equal, put_same, put_other, put_holds}
-use Rattle.plain_model.proofs.Segments.{IsSegment, no_commit_after}
+use Rattle.plain_model.proofs.Segments.{IsSegment, segment_tail, no_commit_after}
 use Rattle.plain_model.proofs.Accounts.{Account, count, books_more}
 use Rattle.plain_model.proofs.Cores.{is_bereft}
 use Rattle.plain_model.proofs.Facts.{Fact}
@@ -38,7 +38,7 @@ late_keeps {S} {U} m s n q l (c ∷ cs) f some e = go (commits c (m.replies s (q
     cut = subst IsSegment e (f.books.shape n)
 
     shape : (k : ℕ) → IsSegment (put q.in_flight n after k).commands
-    shape = put_holds q.in_flight n after (λ k v. IsSegment v.commands) (record { cut = cut.cut.1; commands = cut.commands.1 }) (λ k ne. f.books.shape k)
+    shape = put_holds q.in_flight n after (λ k v. IsSegment v.commands) (segment_tail c cs cut) (λ k ne. f.books.shape k)
 
     now : (k : ℕ) → k ≡ n → has_commit (put q.in_flight n after k).commands ≡ true → has_commit cs ≡ true
     now k ek h = sym (ap (λ (v : InFlight U). has_commit v.commands) (put_same q.in_flight n after))

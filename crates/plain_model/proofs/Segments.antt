@@ -28,16 +28,27 @@ abbrev pub IsCut : List Command → Type 0
 IsCut [] = Unit {0}
 IsCut (c ∷ cs) = Closes (is_end c) cs × IsCut cs
 
+-- each command but the last is passed
+abbrev pub IsRunning : List Command → Type 0
+IsRunning [] = Unit {0}
+IsRunning (c ∷ []) = Unit {0}
+IsRunning (c ∷ d ∷ cs) = (is_passed (class_of c.code) ≡ true) × IsRunning (d ∷ cs)
+
+running_tail : (c : Command) (cs : List Command) → IsRunning (c ∷ cs) → IsRunning cs
+running_tail c [] run = tt
+running_tail c (d ∷ cs) run = run.1
+
 -- it is cut so, and its commands are such as a chain can have
 pub record IsSegment (g : List Command) : Type 0 where
   pub cut : IsCut g
+  pub run : IsRunning g
   pub commands : AllByRecursion IsCommand g
 
 abbrev pub AreSegments : List (List Command) → Type 0
 AreSegments gs = AllByRecursion IsSegment gs
 
 pub alone : (c : Command) → IsCommand c → IsSegment (c ∷ [])
-alone c i = record { cut = (closes (is_end c), tt); commands = (i, tt) }
+alone c i = record { cut = (closes (is_end c), tt); run = tt; commands = (i, tt) }
   where
     closes : (b : Bool) → Closes b []
     closes true = refl
@@ -55,7 +66,14 @@ before_cut : (c : Command) (gs : List (List Command)) → is_passed (class_of c.
 before_cut c [] e i all = (alone c i, tt)
 before_cut c ([] ∷ gs) e i all = (alone c i, all.1)
 before_cut c ((d ∷ g) ∷ gs) e i all = cond_both (goes_on_a_run d) ((c ∷ d ∷ g) ∷ gs) ((c ∷ []) ∷ (d ∷ g) ∷ gs) AreSegments
-    (λ f. (record { cut = (subst (λ b. Closes b (d ∷ g)) (sym (passed_goes_on (class_of c.code) e)) tt, all.0.cut); commands = (i, all.0.commands) }, all.1))
+    (λ f. (
+      record {
+        cut = (subst (λ b. Closes b (d ∷ g)) (sym (passed_goes_on (class_of c.code) e)) tt, all.0.cut);
+        run = (e, all.0.run);
+        commands = (i, all.0.commands);
+      },
+      all.1,
+    ))
     (λ f. (alone c i, all))
 
 pub segments_cut : (cs : List Command) → AllByRecursion IsCommand cs → AreSegments (segments_of cs)
@@ -66,7 +84,7 @@ segments_cut (c ∷ cs) all = cond_both (is_passed (class_of c.code)) (passed_be
     (λ e. (alone c all.0, segments_cut cs all.1))
 
 pub nothing_cut : IsSegment []
-nothing_cut = record { cut = tt; commands = tt }
+nothing_cut = record { cut = tt; run = tt; commands = tt }
 
 pub first_cut : (gs : List (List Command)) → AreSegments gs → IsSegment (first gs)
 first_cut [] all = nothing_cut
@@ -90,13 +108,21 @@ pub numbered_commands : (k : ℕ) (g : List Command) → AllByRecursion IsComman
 numbered_commands k [] all = tt
 numbered_commands k (c ∷ g) all = (record { code = all.0.code; sound = all.0.sound; size = all.0.size }, numbered_commands (k + 1) g all.1)
 
+numbered_running : (k : ℕ) (g : List Command) → IsRunning g → IsRunning (numbered k g)
+numbered_running k [] run = tt
+numbered_running k (c ∷ []) run = tt
+numbered_running k (c ∷ d ∷ g) run = (run.0, numbered_running (k + 1) (d ∷ g) run.1)
+
+pub segment_tail : (c : Command) (g : List Command) → IsSegment (c ∷ g) → IsSegment g
+segment_tail c g s = record { cut = s.cut.1; run = running_tail c g s.run; commands = s.commands.1 }
+
 pub drop_segment : (n : ℕ) (g : List Command) → IsSegment g → IsSegment (drop n g)
 drop_segment zero g s = s
 drop_segment (suc n) [] s = s
-drop_segment (suc n) (c ∷ g) s = drop_segment n g (record { cut = s.cut.1; commands = s.commands.1 })
+drop_segment (suc n) (c ∷ g) s = drop_segment n g (segment_tail c g s)
 
 pub numbered_segment : (k : ℕ) (g : List Command) → IsSegment g → IsSegment (numbered k g)
-numbered_segment k g s = record { cut = numbered_cut k g s.cut; commands = numbered_commands k g s.commands }
+numbered_segment k g s = record { cut = numbered_cut k g s.cut; run = numbered_running k g s.run; commands = numbered_commands k g s.commands }
 
 cons_nil : {A : Type 0} {x : A} {xs : List A} → x ∷ xs ≡ [] → ⊥
 cons_nil e = cc

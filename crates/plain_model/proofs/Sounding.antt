@@ -226,7 +226,7 @@ ended_sound name k j s ea eo es ep et eg est = record {
   front = λ o. ap (λ gs. is_local name j.standing (first gs)) eg ∙ ap (λ st. is_local name st (first k.segments)) est ∙ s.front (sym eo ∙ o);
 }
 
-event_sound : {S U : Type 0} (name : List ℕ) (m : Meaning S U) (s : S) (q : Session U) (what : What) → IsSound name q.core → IsPossible q what
+pub event_sound : {S U : Type 0} (name : List ℕ) (m : Meaning S U) (s : S) (q : Session U) (what : What) → IsSound name q.core → IsPossible q what
     → IsSound name (session_after name m s q what).core
 unfolding none_left closed left
 event_sound name m s q (Begin reading) sound may = begin_sound name reading q.core sound
@@ -251,7 +251,7 @@ events_sound {U = U} name m (e ∷ es) p sound may i =
     (event_sound name m p.shared (p.session e.session) e.what (sound e.session) may.0) (λ k ne. sound k))
     may.1 i
 
-start_sound : (name : List ℕ) → IsSound name new_core
+pub start_sound : (name : List ℕ) → IsSound name new_core
 start_sound name = record { sets = tt; fits = none_fit; emptied = λ ne. absurd (ne refl); front = λ o. refl }
 
 pub each_core_is_sound : {S U : Type 0} (name : List ℕ) (m : Meaning S U) → EachCoreIsSound name m

@@ -10,4 +10,5 @@ pub mod Plain
 pub mod Told
 pub mod InWork
 pub mod Sound
+pub mod Repeats
 pub mod Example

@@ -3,6 +3,7 @@
 ghost use Rattle.std.specs.Prelude.{ℕ, List};
 ghost use Rattle.plain_model.specs.Told.{EachUnitIsFair};
 ghost use Rattle.plain_model.specs.Sound.{EachCoreIsSound};
+ghost use Rattle.plain_model.specs.Repeats.{NoRepeatNeedsData};
 ghost use Rattle.plain_model.specs.InWork.{LossIsTold, StaysInWork, CanRunAgain, AllAreCounted};
 
 use crate::group::Group;
@@ -38,4 +39,10 @@ pub fn commits_are_counted<G: Group>(_group: &G)
 /// done while an error is owed, and else a server answers the segment in work.
 pub fn each_core_is_sound<G: Group>(_group: &G)
     ensures { (name : List ℕ) → EachCoreIsSound name G.meaning }
+{}
+
+/// Whatever the data are, the commands that run again after a loss are answered alike, leave the data, and lead to the one unit
+/// that the loss leaves; and before its database was accessed a session has done nothing that could be lost.
+pub fn repeats_need_no_data<G: Group>(_group: &G)
+    ensures { (name : List ℕ) → NoRepeatNeedsData name G.meaning G.is_shared }
 {}

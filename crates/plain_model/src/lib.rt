@@ -13,5 +13,5 @@ pub use cases::{
 pub use group::Group;
 pub use laws::{
     commits_are_counted, each_core_is_sound, each_unit_is_fair, loss_is_told,
-    lost_units_can_run_again, segments_stay_in_work,
+    lost_units_can_run_again, repeats_need_no_data, segments_stay_in_work,
 };
