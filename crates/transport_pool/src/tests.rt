@@ -1,3 +1,5 @@
+ghost use Rattle.std.specs.Prelude.{◌≤◌};
+
 use super::*;
 use access_handshake::{Mark, Stage};
 use server_list::{ServerList, ServerRow, Tried};
@@ -13,6 +15,17 @@ fn pair(weight: u16, number: u32) -> ServerList {
     list.push(ServerRow { member: 2, weight });
     list.set_number(number);
     list
+}
+
+/// A house with this list, which has members and no number.
+fn new_house(alloc: Global, cap: u32, list: &ServerList) -> Result<House<u32>, Fail>
+    requires least { 1 ≤ cap }
+    requires most { cap ≤ 32 }
+{
+    if list.is_empty() || list.number() != 0 {
+        return Err(Fail::from("a list without members, or with a number"));
+    }
+    Ok(House::<u32>::new(alloc, cap, list, 2)?)
 }
 
 fn lend(session: u32, tried: Tried, fresh: bool) -> PoolCall {
@@ -182,7 +195,7 @@ fn right(lend: Lend<u32>) -> Option<Grant> {
 
 /// A house in which two transports may be lent, with one that is idle: number 1, with link 71.
 fn with_idle(alloc: Global) -> Result<House<u32>, Fail> {
-    let mut house = House::<u32>::new(alloc, 2, &pair(1, 0), 2)?;
+    let mut house = new_house(alloc, 2, &pair(1, 0))?;
     if let Some(first) = right(house.lend(1, Tried::none(), false)) {
         house.give_back(Transport::rest(first, 71, AT_REST));
     }
@@ -234,7 +247,7 @@ fn counts_each_call(rt: HostRuntime) -> Result<(), Fail> {
 #[test]
 fn hands_back_what_is_not_lent(rt: HostRuntime) -> Result<(), Fail> {
     let mut house = with_idle(rt.alloc())?;
-    let mut other = House::<u32>::new(rt.alloc(), 1, &pair(1, 0), 1)?;
+    let mut other = new_house(rt.alloc(), 1, &pair(1, 0))?;
     let stranger = right(other.lend(1, Tried::none(), false)).expect(&rt, "a right");
     let handed = house.give_back(Transport::rest(stranger, 72, AT_REST));
     assert!(rt; handed.is_some_and(|transport| transport.into_parts().1 == 72));
@@ -244,7 +257,7 @@ fn hands_back_what_is_not_lent(rt: HostRuntime) -> Result<(), Fail> {
 /// A right that is lost frees its place.
 #[test]
 fn lends_after_a_loss(rt: HostRuntime) -> Result<(), Fail> {
-    let mut house = House::<u32>::new(rt.alloc(), 1, &pair(1, 0), 1)?;
+    let mut house = new_house(rt.alloc(), 1, &pair(1, 0))?;
     let none = Tried::none();
     let grant = right(house.lend(1, none, false)).expect(&rt, "a right");
     assert!(rt; house.queues(2, none));
@@ -256,7 +269,7 @@ fn lends_after_a_loss(rt: HostRuntime) -> Result<(), Fail> {
 /// The listed members are told where all are tried.
 #[test]
 fn tells_the_listed_members(rt: HostRuntime) -> Result<(), Fail> {
-    let mut house = House::<u32>::new(rt.alloc(), 1, &pair(1, 0), 1)?;
+    let mut house = new_house(rt.alloc(), 1, &pair(1, 0))?;
     let both = Tried::none().with(1).with(2);
     match house.lend(1, both, false) {
         Lend::NoneLeft(listed) => {
@@ -278,7 +291,7 @@ fn fill(alloc: Global, house: &mut House<u32>) -> Result<(), Fail> {
     }
     let mut link = 100;
     for grant in rights {
-        link = (link + 1).min(133);
+        link = u32::saturating_add(link, 1);
         house.give_back(Transport::rest(grant, link, AT_REST));
     }
     Ok(())
@@ -292,7 +305,7 @@ fn hands_out_the_link_idle_longest(rt: HostRuntime) -> Result<(), Fail> {
         member: 1,
         weight: 1,
     });
-    let mut house = House::<u32>::new(rt.alloc(), 32, &list, 1)?;
+    let mut house = new_house(rt.alloc(), 32, &list)?;
     fill(rt.alloc(), &mut house)?;
     for _ in 0..2 {
         let again = right(house.lend(1, Tried::none(), false)).expect(&rt, "an idle one");
@@ -315,7 +328,7 @@ fn sent<T: Send>(value: T) -> T {
 /// A house can cross to another thread.
 #[test]
 fn house_is_sent(rt: HostRuntime) -> Result<(), Fail> {
-    let house = sent(House::<u32>::new(rt.alloc(), 1, &pair(1, 0), 1)?);
+    let house = sent(new_house(rt.alloc(), 1, &pair(1, 0))?);
     assert!(rt; house.calls() == 0);
     Ok(())
 }

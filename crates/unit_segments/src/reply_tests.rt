@@ -1,3 +1,8 @@
+ghost use Rattle.std.specs.Prelude.{IsTrue};
+ghost use Rattle.std.specs.List.{AllByRecursion};
+ghost use Rattle.unit_segments.specs.Release.{FitsAChain};
+ghost use Rattle.unit_segments.specs.Strip.{FitsAReply};
+
 use super::*;
 use crate::tests::read;
 use ddm_codepoints::TypDef;
@@ -28,11 +33,49 @@ fn replies(alloc: Global, bodies: &[(Kind, &[u8])]) -> Result<DssList, Fail> {
     Ok(replies)
 }
 
+/// Whether each command's body is no longer than a chain may be.
+fn are_commands(commands: &[Command]) -> bool
+    ensures { IsTrue result → AllByRecursion FitsAChain commands.now }
+{
+    match commands.split_first() {
+        Some((command, others)) => command.body.len() <= 16_777_216 && are_commands(others),
+        None => true,
+    }
+}
+
+/// Whether each reply's body is no longer than that of a reply may be.
+fn are_replies(replies: &[Dss]) -> bool
+    ensures { IsTrue result → AllByRecursion FitsAReply replies.now }
+{
+    match replies.split_first() {
+        Some((reply, others)) => reply.body.len() <= 33_554_426 && are_replies(others),
+        None => true,
+    }
+}
+
+/// A segment as a member gets it.
+fn asked(alloc: Global, segment: &Segment) -> Result<Octets, Fail> {
+    if are_commands(segment.commands().as_slice()) {
+        Ok(ask_release(alloc, segment)?)
+    } else {
+        Err(Fail::from("a command is too long"))
+    }
+}
+
+/// What replies to a segment come to.
+fn stripped(alloc: Global, replies: &DssList, segment: &Segment) -> Result<Stripped, Fail> {
+    if are_replies(replies.as_slice()) {
+        Ok(strip(alloc, replies, segment)?)
+    } else {
+        Err(Fail::from("a reply is too long"))
+    }
+}
+
 /// RDBCMM and RDBRLLBCK alone; an asking of the application's own, around another parameter; a command with an object before
 /// one that ends the unit.
 #[test]
 fn asks(rt: HostRuntime) -> Result<(), Fail> {
-    for (bytes, asked) in [
+    for (bytes, wanted) in [
         (
             [0x00, 0x0A, 0xD0, 0x01, 0x00, 0x05, 0x00, 0x04, 0x20, 0x0E].as_slice(),
             [
@@ -76,8 +119,8 @@ fn asks(rt: HostRuntime) -> Result<(), Fail> {
         ),
     ] {
         let segments = segments_of(rt.alloc(), bytes)?;
-        let sent = ask_release(rt.alloc(), segments.get(0).ok_or("a segment")?)?;
-        assert_eq!(rt; sent.as_slice(), asked);
+        let sent = asked(rt.alloc(), segments.get(0).ok_or("a segment")?)?;
+        assert_eq!(rt; sent.as_slice(), wanted);
     }
     Ok(())
 }
@@ -162,7 +205,7 @@ fn strips(rt: HostRuntime) -> Result<(), Fail> {
             rt.alloc(),
             &[(Kind::Reply, message), (Kind::Object, null.as_slice())],
         )?;
-        let stripped = strip(rt.alloc(), &replies, segment)?;
+        let stripped = stripped(rt.alloc(), &replies, segment)?;
         assert_eq!(rt; stripped.replies.len(), 2);
         let first = stripped.replies.get(0).ok_or("a reply")?;
         assert_eq!(rt; first.corr, 5);
@@ -200,7 +243,7 @@ fn takes_out(rt: HostRuntime) -> Result<(), Fail> {
             (Kind::Object, [0x00].as_slice()),
         ],
     )?;
-    let stripped = strip(rt.alloc(), &replies, segment)?;
+    let stripped = stripped(rt.alloc(), &replies, segment)?;
     assert_eq!(rt; stripped.replies.len(), 4);
     let second = stripped.replies.get(1).ok_or("a reply")?;
     assert_eq!(rt; second.body.as_slice(), [0x00, 0x04, 0x22, 0x0C].as_slice());
@@ -218,7 +261,7 @@ fn takes_out(rt: HostRuntime) -> Result<(), Fail> {
 /// The data of a SQLSTT with this text in mixed bytes.
 fn sqlstt(alloc: Global, text: &[u8]) -> Result<Vec<u8>, Fail> {
     let mut data = Vec::new(alloc);
-    let [high, low] = (text.len() as u16).to_be_bytes();
+    let [high, low] = u16::try_from(text.len())?.to_be_bytes();
     data.extend_from_slice(&[0x00, 0x00, 0x00, high, low])?;
     data.extend_from_slice(text)?;
     data.push(0xFF)?;
