@@ -1,5 +1,5 @@
 #!/usr/bin/env bash
-# Times reading, cutting and joining chains against copying the same bytes. It proves and builds the crates and the program
+# Times reading, cutting, asking and joining chains against copying the same bytes. It proves and builds the crates and the program
 # of bench/chains in a folder of its own, which takes some minutes, and runs the program so many times.
 set -eu
 cd "$(dirname "$0")/.."
@@ -22,6 +22,8 @@ mkdir -p "$folder/crates/chains/src"
 for file in bench/frames/{jobs,timing,trouble}.rt.in bench/chains/*.rt.in; do
     cp "$file" "$folder/crates/chains/src/$(basename "$file" .in)"
 done
+mkdir -p "$folder/crates/chains/proofs/chains/+fit"
+cp bench/chains/fit.antt.in "$folder/crates/chains/proofs/chains/+fit/Invariants.antt"
 echo 'chains: link_ends dss_frame unit_segments' >>"$folder/crates.txt"
 
 # `rt run` builds with LLVM's optimization. What it says of the proof and the build goes to its standard error.
