@@ -7,7 +7,6 @@ ghost use Rattle.ddm_objects.specs.Builder.{after_begin, after_put, after_end};
 use crate::object::{EXTENDED_4, GREATEST_EXTENDED, HEADER};
 use arrayvec::ArrayVec;
 use byteorder::{BigEndian, ByteOrder};
-use bytes::BytesMut;
 use link_ends::{NoMemory, Octets};
 use std::alloc::Global;
 use std::marker::Model;
@@ -35,7 +34,7 @@ struct BegunObject {
 /// bytes up to 32,763 bytes of data, and four more above.
 #[derive(Debug, Drop)]
 pub struct Builder {
-    bytes: BytesMut,
+    bytes: Vec<u8>,
     begun: ArrayVec<BegunObject, GREATEST_DEPTH>,
 }
 
@@ -58,7 +57,7 @@ impl Builder {
         ensures { result ≡ nothing_built }
     {
         Builder {
-            bytes: BytesMut::new(alloc),
+            bytes: Vec::new(alloc),
             begun: ArrayVec::new(),
         }
     }
@@ -137,7 +136,7 @@ impl Builder {
 
 /// Writes the header of this object, whose data go to the end of the bytes. One that is too long for four bytes moves
 /// the data.
-fn end_at(bytes: &mut BytesMut, object: BegunObject) -> Result<(), NoMemory>
+fn end_at(bytes: &mut Vec<u8>, object: BegunObject) -> Result<(), NoMemory>
     requires begun { object.at + 4 ≤ length bytes.old.items }
     requires fits { length bytes.old.items ≤ greatest_built }
     ensures ok { OnOk result (bytes.new.items ≡ take object.at bytes.old.items ++ canonical_object object.code (drop (object.at + 4) bytes.old.items)) }

@@ -1,11 +1,13 @@
-ghost use Rattle.std.specs.Prelude.{◌≡◌, ◌+◌, ◌*◌, ◌≤◌, length, drop, IfOk, OnErr};
+ghost use Rattle.std.specs.Prelude.{◌≡◌, ◌+◌, ◌*◌, ◌≤◌, [], ◌∷◌, ◌++◌, length, take, drop, IfOk, OnOk, OnErr};
+ghost use Rattle.dss_frame.specs.Segments.{extent_of, dss_of};
+ghost use Rattle.dss_frame.specs.declared.segments.Extent.TheVariants.{Ends};
 ghost use Rattle.dss_frame.specs.Reading.{fed};
 ghost use Rattle.dss_frame.specs.Scan.{Scanned, Extends, at_position, kept_by};
 ghost use Rattle.dss_frame.specs.Walk.{walked_to, IsWalked};
 
 use crate::dss::{Placed, Side};
 use crate::fault::StreamFault;
-use crate::segments::{FURTHER_HEADER, dss_of, segment_size};
+use crate::segments::{FURTHER_HEADER, is_short, long_body, segment_size, short_body, with_body};
 use crate::step::{Position, Step};
 use crate::unread::Unread;
 use bytes::BytesMut;
@@ -76,18 +78,42 @@ impl Scanner {
                     });
                 }
                 Step::Reads { len } => {
-                    let dss = dss_of(room, self.side, &rest[..len], rest)?;
-                    let after = position.after(self.limit, &dss, len);
-                    whole.push_back(Placed {
-                        at: position.at,
-                        dss,
-                    })?;
+                    let bytes = &rest[..len];
+                    self.put_dss(position.at, room, bytes, rest, whole)?;
+                    position = position.after(self.limit, bytes);
                     begins += len;
-                    position = after;
                     walked = 0;
                 }
             }
         }
+    }
+
+    /// Puts the DSS that these bytes are, all of them, with which the stream goes on, and which begins at this place, behind
+    /// `whole`. A short one and a long one are put there apart, so that the body of a short one is moved but once.
+    fn put_dss(
+        self,
+        at: u64,
+        room: &mut BytesMut,
+        bytes: &[u8],
+        stream: &[u8],
+        whole: &mut VecDeque<Placed>,
+    ) -> Result<(), NoMemory>
+        requires whole { extent_of self.side bytes.now ≡ Ends (length bytes.now) }
+        requires begins { bytes.now ≡ take (length bytes.now) stream.now }
+        ensures put { OnOk result (whole.new.items ≡ whole.old.items ++ record { at = at; dss = dss_of bytes.now } ∷ []) }
+        ensures err { OnErr result (whole.new.items ≡ whole.old.items) }
+    {
+        whole.reserve(1)?;
+        if is_short(bytes) {
+            let body = short_body(*room.allocator(), bytes, stream);
+            let dss = with_body(bytes, body);
+            whole.push_back_reserved(Placed { at, dss });
+            return Ok(());
+        }
+        let body = long_body(room, bytes)?;
+        let dss = with_body(bytes, body);
+        whole.push_back_reserved(Placed { at, dss });
+        Ok(())
     }
 
     /// Reads a piece behind the bytes of the DSS that isn't whole, and keeps those of the one that isn't whole then. Only

@@ -1,4 +1,4 @@
-ghost use Rattle.std.specs.Prelude.{◌≡◌, ◌+◌, ◌*◌, [], ◌<◌, ◌≤◌, length, take, IfOk, OnOk};
+ghost use Rattle.std.specs.Prelude.{◌≡◌, ◌+◌, ◌*◌, [], ◌<◌, ◌≤◌, length, take, nat_le, false, not, ◌&&◌, IfOk, OnOk};
 ghost use Rattle.dss_frame.specs.Segments.{segment_size, continues, has_bit, kind_of, is_format_of, header_fault, field_offset, segments_extent};
 ghost use Rattle.dss_frame.specs.Segments.{extent_of, dss_of, body_of};
 ghost use Rattle.dss_frame.specs.Walk.{walked_to, IsWalked, EndsBehind};
@@ -8,6 +8,7 @@ use crate::fault::Why;
 use byteorder::{BigEndian, ByteOrder};
 use bytes::BytesMut;
 use link_ends::{NoMemory, Octets};
+use std::alloc::Global;
 
 /// The third byte of each DSS.
 pub(crate) const MAGIC: u8 = 0xD0;
@@ -16,7 +17,7 @@ pub(crate) const MAGIC: u8 = 0xD0;
 /// error, and the next DSS has the same correlation number.
 const RESERVED: u8 = 0x80;
 
-const CHAINED: u8 = 0x40;
+pub(crate) const CHAINED: u8 = 0x40;
 
 const GO_ON: u8 = 0x20;
 
@@ -77,7 +78,7 @@ fn continues(bytes: &[u8]) -> bool
 }
 
 /// Whether the byte has this bit set.
-fn has_bit(byte: u8, bit: u8) -> bool
+pub(crate) fn has_bit(byte: u8, bit: u8) -> bool
     requires { 0 < bit }
     ensures { result ≡ has_bit bit byte }
 {
@@ -211,47 +212,50 @@ fn walk_on(bytes: &[u8], walked: usize) -> Walk
     }
 }
 
-/// The DSS that these bytes are, all of them, with which the stream begins. A long body is put into the room.
+/// The DSS that these bytes are, all of them, with this body.
 #[tactic(auto, unfolding(crate::specs::Segments::dss_of))]
-pub(crate) fn dss_of(
-    room: &mut BytesMut,
-    side: Side,
-    bytes: &[u8],
-    stream: &[u8],
-) -> Result<Dss, NoMemory>
-    requires whole { extent_of side bytes.now ≡ Extent.Ends (length bytes.now) }
-    requires begins { bytes.now ≡ take (length bytes.now) stream.now }
-    ensures { IfOk result (λ d. d ≡ dss_of bytes.now) }
+#[inline]
+pub(crate) fn with_body(bytes: &[u8], body: Octets) -> Dss
+    requires header { 6 ≤ length bytes.now }
+    requires body { body ≡ body_of (length bytes.now) 6 bytes.now }
+    ensures { result ≡ dss_of bytes.now }
 {
     let format = bytes[3];
-    Ok(Dss {
+    Dss {
         kind: kind(format),
         chained: has_bit(format, CHAINED),
         same: has_bit(format, SAME),
         go_on: has_bit(format, GO_ON),
         corr: BigEndian::read_u16(&bytes[4..]),
-        body: body(room, bytes, stream)?,
-    })
+        body,
+    }
 }
 
-/// What the segments hold that these bytes are, all of them. A short body is copied with what follows it in the stream,
-/// since that is quicker than to copy just as many bytes.
-fn body(room: &mut BytesMut, bytes: &[u8], stream: &[u8]) -> Result<Octets, NoMemory>
+/// Whether these bytes, a whole DSS, are one segment with a short body.
+pub(crate) fn is_short(bytes: &[u8]) -> bool
+    requires { 2 ≤ length bytes.now }
+    ensures { result ≡ (nat_le (length bytes.now) 30 && not (continues bytes.now)) }
+{
+    bytes.len() <= HEADER + SHORT_BODY && !continues(bytes)
+}
+
+/// What the one segment holds that these bytes are, with which the stream begins. It is copied with what follows it in the
+/// stream, since that is quicker than to copy just as many bytes.
+#[inline]
+pub(crate) fn short_body(alloc: Global, bytes: &[u8], stream: &[u8]) -> Octets
     requires first { 6 ≤ segment_size bytes.now }
     requires whole { segments_extent (length bytes.now) 0 bytes.now ≡ Extent.Ends (length bytes.now) }
     requires begins { bytes.now ≡ take (length bytes.now) stream.now }
-    ensures { IfOk result (λ body. body ≡ body_of (length bytes.now) 6 bytes.now) }
+    requires short { length bytes.now ≤ 30 }
+    requires one { continues bytes.now ≡ false }
+    ensures { result ≡ body_of (length bytes.now) 6 bytes.now }
 {
-    if bytes.len() <= HEADER + SHORT_BODY && !continues(bytes) {
-        let short = bytes.len() - HEADER;
-        return Octets::front_of(*room.allocator(), &stream[HEADER..], short);
-    }
-    long_body(room, bytes)
+    Octets::short_front_of(alloc, &stream[HEADER..], bytes.len() - HEADER)
 }
 
-/// The same, put together in the room.
+/// What the segments hold that these bytes are, all of them, put together in the room.
 #[inline(never)]
-fn long_body(room: &mut BytesMut, bytes: &[u8]) -> Result<Octets, NoMemory>
+pub(crate) fn long_body(room: &mut BytesMut, bytes: &[u8]) -> Result<Octets, NoMemory>
     requires first { 6 ≤ segment_size bytes.now }
     requires whole { segments_extent (length bytes.now) 0 bytes.now ≡ Extent.Ends (length bytes.now) }
     ensures { IfOk result (λ body. body ≡ body_of (length bytes.now) 6 bytes.now) }

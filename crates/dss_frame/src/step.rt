@@ -1,10 +1,11 @@
 ghost use Rattle.std.specs.Prelude.{◌≡◌, ◌+◌, ◌*◌, ◌≤◌, length};
+ghost use Rattle.dss_frame.specs.Segments.{dss_of};
 ghost use Rattle.dss_frame.specs.Reading.{further_on, number_for, too_long, step_of, first_position, position_after};
 ghost use Rattle.dss_frame.specs.Walk.{walked_to, IsWalked, ReadsBehind};
 
-use crate::dss::{Dss, Side};
+use crate::dss::Side;
 use crate::fault::StreamFault;
-use crate::segments::{Extent, judge};
+use crate::segments::{CHAINED, Extent, has_bit, judge};
 use byteorder::{BigEndian, ByteOrder};
 
 /// How many bytes of a DSS have come where its correlation number has.
@@ -52,19 +53,23 @@ impl Position {
         }
     }
 
-    /// Where the DSS begins that follows this one of `len` bytes.
-    pub(crate) fn after(self, limit: u64, dss: &Dss, len: usize) -> Position
-        requires { len ≤ self.room }
-        ensures { result ≡ position_after limit self dss.now len }
+    /// Where the DSS begins that follows the one that these bytes are.
+    #[tactic(auto, unfolding(crate::specs::Segments::dss_of))]
+    pub(crate) fn after(self, limit: u64, bytes: &[u8]) -> Position
+        requires header { 6 ≤ length bytes.now }
+        requires room { length bytes.now ≤ self.room }
+        ensures { result ≡ position_after limit self (dss_of bytes.now) (length bytes.now) }
     {
+        let len = bytes.len() as u64;
+        let chained = has_bit(bytes[3], CHAINED);
         Position {
-            at: self.place(len as u64),
-            room: if dss.chained {
-                self.room - len as u64
+            at: self.place(len),
+            room: if chained { self.room - len } else { limit },
+            before: if chained {
+                BigEndian::read_u16(&bytes[4..])
             } else {
-                limit
+                0
             },
-            before: if dss.chained { dss.corr } else { 0 },
         }
     }
 

@@ -1,5 +1,6 @@
-ghost use Rattle.std.specs.Prelude.{◌≡◌, ◌+◌, ◌<◌, ◌≤◌, ◌++◌, length, take, drop, IsTrue, OnOk, OnErr};
-ghost use Rattle.dss_frame.specs.Dss.{kind_number, flag, format_byte, segment_length, header, canonical};
+ghost use Rattle.std.specs.Prelude.{◌≡◌, ◌+◌, ◌<◌, ◌≤◌, ◌∷◌, ◌++◌, length, take, drop, IsTrue, OnOk, OnErr};
+ghost use Rattle.std.specs.Int.{w16, to_be_bytes};
+ghost use Rattle.dss_frame.specs.Dss.{magic, kind_number, flag, format_byte, segment_length, header, canonical};
 ghost use Rattle.dss_frame.specs.Scan.{Extends};
 
 use crate::dss::{Dss, Kind};
@@ -12,9 +13,6 @@ const FIRST_ROOM: usize = 32_761;
 
 /// How many bytes of body a further segment holds.
 const FURTHER_ROOM: usize = 32_765;
-
-/// How many bytes a DSS has at most whose body is short.
-const SHORT_DSS: usize = 30;
 
 /// This bit, where it is set.
 fn bit(set: bool, value: u8) -> u8
@@ -62,31 +60,36 @@ fn length_field(bytes: usize, continues: bool) -> u16
     }
 }
 
-/// The header of the first segment, which has so many bytes.
-fn header_bytes(dss: &Dss, len: usize, continues: bool) -> [u8; HEADER]
-    requires { len < 32768 }
-    ensures { result ≡ header dss.now len continues }
+/// Two bytes of length, D0, the format byte, the correlation number, and two bytes behind them: eight are moved at once.
+fn eight_bytes(length: u16, format: u8, corr: u16) -> [u8; 8]
+    ensures { take 6 result ≡ to_be_bytes w16 length ++ (magic ∷ format ∷ to_be_bytes w16 corr) }
 {
-    let mut bytes = [0; HEADER];
-    BigEndian::write_u16(&mut bytes, length_field(len, continues));
-    bytes[2] = MAGIC;
-    bytes[3] = format_byte(dss);
-    BigEndian::write_u16(&mut bytes[4..], dss.corr);
-    bytes
+    let marked = u64::from(length) * 0x1_0000 + u64::from(MAGIC) * 0x100 + u64::from(format);
+    (marked * 0x1_0000_0000 + u64::from(corr) * 0x1_0000).to_be_bytes()
 }
 
-/// Appends the header and a short body at once, which this array has with others behind it.
+/// The header of the first segment, which has so many bytes, and two bytes behind it.
+fn header_bytes(dss: &Dss, len: usize, continues: bool) -> [u8; 8]
+    requires { len < 32768 }
+    ensures { take 6 result ≡ header dss.now len continues }
+{
+    eight_bytes(length_field(len, continues), format_byte(dss), dss.corr)
+}
+
+/// Appends the canonical spelling of a DSS with a short body, which this array has with others behind it.
 fn push_short(dss: &Dss, body: &[u8; SHORT_BODY], out: &mut Octets) -> Result<(), NoMemory>
     requires short { length dss.now.body ≤ 24 }
     requires body { take (length dss.now.body) body.now ≡ dss.now.body }
     ensures ok { OnOk result (out.new ≡ out.old ++ canonical dss.now) }
     ensures err { OnErr result (out.new ≡ out.old) }
 {
-    let len = HEADER + dss.body.len();
-    let mut bytes = [0; SHORT_DSS];
-    bytes[..HEADER].copy_from_slice(&header_bytes(dss, len, false));
-    bytes[HEADER..SHORT_DSS].copy_from_slice(body);
-    out.push_front_of(&bytes, len)
+    let len = dss.body.len();
+    out.push_front_of(&header_bytes(dss, HEADER + len, false), HEADER)?;
+    let written = out.push_front_of(body, len);
+    if written.is_err() {
+        out.truncate(out.len() - HEADER);
+    }
+    written
 }
 
 fn push_length(len: usize, continues: bool, out: &mut Octets) -> Result<(), NoMemory>
@@ -105,7 +108,7 @@ fn push_segments(dss: &Dss, out: &mut Octets) -> Result<(), NoMemory>
     ensures err { OnErr result (Extends out.old out.new) }
 {
     let (part, mut rest) = cut(dss.body.as_slice(), FIRST_ROOM);
-    out.push_all(&header_bytes(dss, HEADER + part.len(), !rest.is_empty()))?;
+    out.push_front_of(&header_bytes(dss, HEADER + part.len(), !rest.is_empty()), HEADER)?;
     out.push_all(part)?;
     while !rest.is_empty() {
         let (part, after) = cut(rest, FURTHER_ROOM);

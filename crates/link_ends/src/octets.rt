@@ -1,7 +1,7 @@
 ghost use Rattle.std.specs.Prelude.{◌≡◌, ◌==◌, ◌++◌, ◌+◌, ◌≤◌, [], length, take, drop, slice_range, IfOk, IfSome, OnOk, OnErr};
 
 use crate::short::{SHORT, Short};
-use bytes::{Bytes, BytesMut};
+use bytes::Bytes;
 use std::alloc::{AllocError, AllocFailed, Global};
 use std::marker::Model;
 
@@ -27,13 +27,13 @@ enum Kept {
     /// In the value itself.
     Inside(Short),
     /// In a buffer that grows, and that no other list shares.
-    Own(BytesMut),
+    Own(Vec<u8>),
     /// In a buffer that other lists may share.
     Shared(Bytes),
 }
 
 /// A list of bytes that can grow. A short one stands in the value itself and takes no memory; the parts of a long one
-/// that was made of bytes at once, or taken from the front of another, share its buffer.
+/// that was made of bytes at once share its buffer.
 #[derive(Debug, Drop)]
 pub struct Octets {
     alloc: Global,
@@ -77,14 +77,24 @@ impl Octets {
         if count > SHORT {
             return shared_copy(alloc, &bytes[..count]);
         }
-        Ok(Octets {
+        Ok(Octets::short_front_of(alloc, bytes, count))
+    }
+
+    /// The same of few bytes, which stand in the value itself. It takes no memory.
+    #[inline]
+    pub fn short_front_of(alloc: Global, bytes: &[u8], count: usize) -> Octets
+        requires within { count ≤ length bytes.now }
+        requires short { count ≤ 24 }
+        ensures { result ≡ take count bytes.now }
+    {
+        Octets {
             alloc,
             kept: Kept::Inside(Short::front_of(bytes, count)),
-        })
+        }
     }
 
     /// The bytes of a buffer, which is taken over. It takes no memory.
-    pub fn from_grown(bytes: BytesMut) -> Octets
+    pub fn from_grown(bytes: Vec<u8>) -> Octets
         ensures { result ≡ bytes.items }
     {
         Octets {
@@ -156,29 +166,13 @@ impl Octets {
     {
         match &mut self.kept {
             Kept::Inside(bytes) => bytes.advance(count),
-            Kept::Own(bytes) => bytes.advance(count),
+            Kept::Own(bytes) => {
+                let left = bytes.len() - count;
+                bytes.copy_within(count.., 0);
+                bytes.truncate(left);
+            }
             Kept::Shared(bytes) => bytes.advance(count),
         }
-    }
-
-    /// Hands out the first `count` bytes, and keeps the others. Where there are many, the two share a buffer.
-    pub fn cut(&mut self, count: usize) -> Result<Octets, NoMemory>
-        requires { count ≤ length self.old }
-        ensures front { IfOk result (λ front. front ≡ take count self.old) }
-        ensures rest { OnOk result (self.new ≡ drop count self.old) }
-        ensures err { OnErr result (self.new ≡ self.old) }
-    {
-        let alloc = self.alloc;
-        let front = match &mut self.kept {
-            Kept::Own(bytes) if count > SHORT => bytes.freeze_to(count)?,
-            Kept::Shared(bytes) if count > SHORT => bytes.split_to(count)?,
-            _ => {
-                let front = Octets::of(alloc, &self.as_slice()[..count])?;
-                self.advance(count);
-                return Ok(front);
-            }
-        };
-        Ok(Octets::from_shared(alloc, front))
     }
 
     /// Keeps the first `len` bytes, or all of them where there are no more.
@@ -257,10 +251,10 @@ fn shared_copy(alloc: Global, bytes: &[u8]) -> Result<Octets, NoMemory>
 }
 
 /// A buffer with these bytes, and others behind them.
-fn grown(alloc: Global, bytes: &[u8], more: &[u8]) -> Result<BytesMut, NoMemory>
+fn grown(alloc: Global, bytes: &[u8], more: &[u8]) -> Result<Vec<u8>, NoMemory>
     ensures { IfOk result (λ grown. grown.items ≡ bytes.now ++ more.now) }
 {
-    let mut grown = BytesMut::with_capacity(alloc, bytes.len().saturating_add(more.len()))?;
+    let mut grown = Vec::with_capacity(alloc, bytes.len().saturating_add(more.len()))?;
     grown.extend_from_slice(bytes)?;
     grown.extend_from_slice(more)?;
     Ok(grown)

@@ -1,5 +1,5 @@
 use crate::{Failed, Marks, MemSink, MemSource, NoMemory, Octets, OctetsList, Sink, Source, Tape};
-use bytes::{Bytes, BytesMut};
+use bytes::Bytes;
 use std::alloc::Global;
 use std::test::Fail;
 
@@ -62,26 +62,20 @@ fn a_part_stays_as_it_is_where_the_whole_grows(rt: HostRuntime) -> Result<(), Fa
 }
 
 #[test]
-fn octets_are_cut_from_the_front(rt: HostRuntime) -> Result<(), Fail> {
-    let letters = b"abcdefghijklmnopqrstuvwxyz0123456789";
-    let grown = BytesMut::copy_from_slice(rt.alloc(), letters)?;
+fn octets_are_given_up_at_the_front(rt: HostRuntime) -> Result<(), Fail> {
+    let letters = b"abcdefghijklmnopqrstuvwxyz0123456789".as_slice();
+    let mut grown = Vec::new(rt.alloc());
+    grown.extend_from_slice(letters)?;
     let mut octets = Octets::from_grown(grown);
     assert_eq!(rt; octets.len(), 36);
-    assert_eq!(rt; octets.cut(2)?.as_slice(), b"ab".as_slice());
-    assert_eq!(rt; octets.len(), 34);
-    assert_eq!(rt;
-        octets.cut(30)?.as_slice(),
-        b"cdefghijklmnopqrstuvwxyz012345".as_slice()
-    );
-    assert_eq!(rt; octets.as_slice(), b"6789".as_slice());
+    octets.advance(2);
+    assert_eq!(rt; octets.as_slice(), &letters[2..]);
     let shared = Bytes::copy_from_slice(rt.alloc(), letters)?;
     let mut octets = Octets::from_shared(rt.alloc(), shared);
-    assert_eq!(rt; octets.len(), 36);
-    assert_eq!(rt;
-        octets.cut(30)?.as_slice(),
-        b"abcdefghijklmnopqrstuvwxyz0123".as_slice()
-    );
-    assert_eq!(rt; octets.as_slice(), b"456789".as_slice());
+    octets.advance(30);
+    assert_eq!(rt; octets.as_slice(), &letters[30..]);
+    let few = Octets::short_front_of(rt.alloc(), letters, 3);
+    assert_eq!(rt; few.as_slice(), b"abc".as_slice());
     Ok(())
 }
 

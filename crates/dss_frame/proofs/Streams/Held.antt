@@ -1,12 +1,11 @@
 -- Without a fault a reader holds all that follows the spellings of the DSSs that were taken.
-use Rattle.std.proofs.Common.{◌≡◌, ℕ, ◌+◌, ◌-◌, ◌^◌, ◌<◌, min, List, [], ◌∷◌, ◌++◌, map, length, All, None, refl, sym, ap, subst, ◌∙◌, append_assoc, arith}
+use Rattle.std.proofs.Common.{◌≡◌, ℕ, ◌+◌, ◌-◌, ◌^◌, ◌<◌, min, List, [], ◌∷◌, ◌++◌, map, length, All, None, refl, sym, ap, ◌∙◌, append_assoc, arith}
 use Rattle.std.specs.List.{AllByRecursion}
 use Rattle.std.proofs.lemmas.List.{length-append}
 use Rattle.dss_frame.specs.declared.dss.Side.{Side}
 use Rattle.dss_frame.specs.declared.dss.Dss.{Dss}
 use Rattle.dss_frame.specs.declared.dss.Placed.{Placed}
 use Rattle.dss_frame.specs.declared.step.Position.{Position}
-use Rattle.dss_frame.specs.declared.fault.StreamFault.{StreamFault}
 use Rattle.dss_frame.specs.Reading.{View, first_position, start, position_after, fed, behind}
 use Rattle.dss_frame.specs.Calls.{Call, after_calls, taken_by, fed_by}
 use Rattle.dss_frame.specs.Spelling.{Spelled, IsSpelled}

@@ -15,15 +15,15 @@ push_length-requires c = omega (arith, ap length c.cut-in-loop-rest.ensures.part
 pub loop-rest-init : goal.loop-rest-init
 loop-rest-init c =
     let body = c.as_slice.ensures in
-    let w = wrote_first c.args.dss.now c.args.out.now c.push_all.new.self c.push_all-2.new.self c.cut.result.0.now c.cut.result.1.now _
+    let w = wrote_first c.args.dss.now c.args.out.now c.push_front_of.new.self c.push_all.new.self c.cut.result.0.now c.cut.result.1.now _
     (c.cut.ensures.part ∙ ap (take 32761) body) (c.cut.ensures.rest ∙ ap (drop 32761) body) (ap not c.is_empty.ensures)
-    (c.in_ok-push_all.ensures.ok ∙ ap (λ (xs : List ℕ). c.args.out.now ++ xs) c.header_bytes.ensures) c.in_ok-push_all-2.ensures.ok in
+    (c.in_ok-push_front_of.ensures.ok ∙ ap (λ (xs : List ℕ). c.args.out.now ++ xs) c.header_bytes.ensures) c.in_ok-push_all.ensures.ok in
     record { kept = w.0; goes_on = w.1 }
 
-pub returns-in_err-push_all-3-clause-err : goal.returns-in_err-push_all-3-clause-err
-returns-in_err-push_all-3-clause-err c =
-    let p = err_from_is_err_and c.from_residual-in_err-push_all-3.result c.from_residual-in_err-push_all-3.ensures.1 in
-    rw (p.1, c.in_err-push_all-3.ensures.err, c.in_ok-push_length.ensures.ok) (Extends-append _ _ _ c.loop-rest.invariant.kept)
+pub returns-in_err-push_all-2-clause-err : goal.returns-in_err-push_all-2-clause-err
+returns-in_err-push_all-2-clause-err c =
+    let p = err_from_is_err_and c.from_residual-in_err-push_all-2.result c.from_residual-in_err-push_all-2.ensures.1 in
+    rw (p.1, c.in_err-push_all-2.ensures.err, c.in_ok-push_length.ensures.ok) (Extends-append _ _ _ c.loop-rest.invariant.kept)
 
 pub loop-rest-smaller : goal.loop-rest-smaller
 loop-rest-smaller c =
@@ -38,7 +38,7 @@ loop-rest-preserved c =
     let w = wrote_further c.args.out.now c.loop-rest.out c.push_length.new.out c.push_all-in-loop-rest.new.self c.cut-in-loop-rest.result.0.now
     c.loop-rest.rest.now c.cut-in-loop-rest.result.1.now _ _
     some c.cut-in-loop-rest.ensures.part c.cut-in-loop-rest.ensures.rest (ap not c.is_empty-in-loop-rest-2.ensures)
-    c.in_ok-push_length.ensures.ok c.in_ok-push_all-3.ensures.ok c.loop-rest.invariant.kept c.loop-rest.invariant.goes_on in
+    c.in_ok-push_length.ensures.ok c.in_ok-push_all-2.ensures.ok c.loop-rest.invariant.kept c.loop-rest.invariant.goes_on in
     record { kept = w.0; goes_on = w.1 }
 
 pub returns-clause-ok : goal.returns-clause-ok

@@ -1,7 +1,7 @@
-use Rattle.std.proofs.Common.{◌≡◌, ℕ, ◌+◌, ◌-◌, ◌≤◌, List, [], ◌++◌, length, take, drop, append-nil, refl, sym, ap, subst, ◌∙◌, arith, rules}
+use Rattle.std.proofs.Common.{◌≡◌, ℕ, ◌-◌, ◌≤◌, List, [], ◌++◌, length, take, drop, append-nil, refl, sym, ap, subst, ◌∙◌, arith, rules}
 use Rattle.std.proofs.lemmas.List.{take-append-drop, take_rest, drop_all, drop-drop, drop-append-le}
-use Rattle.dss_frame.specs.Walk.{walked_to, IsWalked}
-use Rattle.dss_frame.specs.Scan.{at_position, Extends}
+use Rattle.dss_frame.specs.Walk.{IsWalked}
+use Rattle.dss_frame.specs.Scan.{at_position}
 use Rattle.std.proofs.lemmas.Bool.{eqb-true}
 use Rattle.link_ends.proofs.Lists.{no_items}
 use Rattle.dss_frame.specs.Reading.{View, fed}

@@ -1,7 +1,5 @@
-use Rattle.std.proofs.Common.{sym, ap, ◌∙◌, arith}
-use Rattle.dss_frame.specs.declared.segments.Extent.{Extent}
+use Rattle.std.proofs.Common.{sym, ◌∙◌, arith}
 use Rattle.dss_frame.proofs.OneDss.Judging.{whole_dss, fails_within}
-use Rattle.dss_frame.proofs.Pieces.NextStep.{waits_awaits}
 use Rattle.dss_frame.proofs.step.Position.next.Goals as goal
 
 pub stop_beyond-requires-then-len-self : goal.stop_beyond-requires-then-len-self
