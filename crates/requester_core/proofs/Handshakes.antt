@@ -12,7 +12,7 @@ use Rattle.requester_core.specs.declared.round.Round.{Round}
 use Rattle.requester_core.specs.declared.round.Round.TheVariants as round
 use Rattle.requester_core.specs.Replay.{given}
 use Rattle.requester_core.specs.Round.{bytes_of, silent, needed, work}
-use Rattle.requester_core.specs.Talk.{Talking, begun}
+use Rattle.requester_core.specs.Talk.{Talking, again_for, begun}
 use Rattle.requester_core.specs.Laws.{asked_of}
 
 access_bytes : (chains : List (List Command)) → map bytes_of (map round.Access chains) ≡ map chain_bytes chains
@@ -52,19 +52,19 @@ all_bytes rounds segment chains e =
 pub dialled_bytes : (t : Talking) (stage : Stage) (mechanism : ℕ) (access : Option Access) (log : List Register) (again : List Command)
     (segment : Option (List Command)) → t.stage ≡ New
     → map bytes_of (begun stage mechanism access log again segment t).rounds
-    ≡ map chain_bytes (handshake t.name stage (given mechanism access) log again true) ++ asked_of segment
+    ≡ map chain_bytes (handshake t.name stage (given mechanism access) log (again_for segment again) true) ++ asked_of segment
 unfolding begun
 dialled_bytes t stage mechanism access log again segment is =
-    ap (λ (s : Stage). map bytes_of (needed s t.name stage (given mechanism access) log again ++ work segment)) is
-    ∙ all_bytes (silent t.name stage (given mechanism access) log again true) segment
-    (handshake t.name stage (given mechanism access) log again true) (silent_bytes t.name stage (given mechanism access) log again true)
+    ap (λ (s : Stage). map bytes_of (needed s t.name stage (given mechanism access) log (again_for segment again) ++ work segment)) is
+    ∙ all_bytes (silent t.name stage (given mechanism access) log (again_for segment again) true) segment
+    (handshake t.name stage (given mechanism access) log (again_for segment again) true) (silent_bytes t.name stage (given mechanism access) log (again_for segment again) true)
 
 pub idle_bytes : (t : Talking) (stage : Stage) (mechanism : ℕ) (access : Option Access) (log : List Register) (again : List Command)
     (segment : Option (List Command)) → t.stage ≡ Attached
     → map bytes_of (begun stage mechanism access log again segment t).rounds
-    ≡ map chain_bytes (handshake t.name stage (given mechanism access) log again false) ++ asked_of segment
+    ≡ map chain_bytes (handshake t.name stage (given mechanism access) log (again_for segment again) false) ++ asked_of segment
 unfolding begun
 idle_bytes t stage mechanism access log again segment is =
-    ap (λ (s : Stage). map bytes_of (needed s t.name stage (given mechanism access) log again ++ work segment)) is
-    ∙ all_bytes (silent t.name stage (given mechanism access) log again false) segment
-    (handshake t.name stage (given mechanism access) log again false) (silent_bytes t.name stage (given mechanism access) log again false)
+    ap (λ (s : Stage). map bytes_of (needed s t.name stage (given mechanism access) log (again_for segment again) ++ work segment)) is
+    ∙ all_bytes (silent t.name stage (given mechanism access) log (again_for segment again) false) segment
+    (handshake t.name stage (given mechanism access) log (again_for segment again) false) (silent_bytes t.name stage (given mechanism access) log (again_for segment again) false)

@@ -60,11 +60,16 @@ mark_of t = record { stage = t.stage; unread = t.unread }
 
 -- ---- what is sent
 
+-- what runs again: nothing without a segment, since an error is owed then
+abbrev pub again_for : Option (List Command) → List Command → List Command
+again_for None again = []
+again_for (Some segment) again = again
+
 -- The rounds that lead to where the session stands, and then the segment, where one is given.
 unfoldable pub begun : Stage → ℕ → Option Access → List Register → List Command → Option (List Command) → Talking → Talking
 begun stage mechanism access log again segment t = record t {
   mechanism = mechanism;
-  rounds = needed t.stage t.name stage (given mechanism access) log again ++ work segment;
+  rounds = needed t.stage t.name stage (given mechanism access) log (again_for segment again) ++ work segment;
   taken = 0;
   replies = [];
   unread = 0;

@@ -188,7 +188,7 @@ fn alone(alloc: Global, command: &Command) -> Result<Outgoing, NoMemory>
 pub(crate) fn put_again(
     alloc: Global,
     stage: Stage,
-    again: &CommandList,
+    again: &[Command],
     rounds: &mut Rounds,
 ) -> Result<(), NoMemory>
     requires { length again.now ≤ most_commands }
@@ -197,7 +197,7 @@ pub(crate) fn put_again(
     if !matches!(stage, Stage::Accessed) || again.is_empty() {
         return Ok(());
     }
-    rounds.push_back(Outgoing::again(alloc, stopping(alloc, again.as_slice())?)?)?;
+    rounds.push_back(Outgoing::again(alloc, stopping(alloc, again)?)?)?;
     Ok(())
 }
 

@@ -8,7 +8,7 @@ ghost use Rattle.unit_segments.specs.Release.{FitsAChain};
 ghost use Rattle.unit_segments.specs.Strip.{FitsAReply};
 ghost use Rattle.requester_core.specs.Replay.{given};
 ghost use Rattle.requester_core.specs.Round.{needed, work};
-ghost use Rattle.requester_core.specs.Talk.{quiet, mark_of, begun, to_send, sent, is_in_segment, back, with_piece, with_replies, given_up, ended_in};
+ghost use Rattle.requester_core.specs.Talk.{quiet, mark_of, again_for, begun, to_send, sent, is_in_segment, back, with_piece, with_replies, given_up, ended_in};
 ghost use Rattle.requester_core.specs.Reply.{most_reply_bytes, least_after, number_in, rest_of};
 ghost use Rattle.dss_frame.specs.Reading.{fed};
 
@@ -28,7 +28,7 @@ use std::alloc::Global;
 use std::collections::VecDeque;
 use std::marker::Model;
 use std::mem;
-use unit_segments::{CommandList, RegisterLog, Segment};
+use unit_segments::{Command, CommandList, RegisterLog, Segment};
 
 /// How many bytes a reply has at most.
 const MOST_REPLY_BYTES: u64 = 33_554_432;
@@ -111,7 +111,7 @@ impl Talk {
     /// Sets out what is to be sent: the handshake that leads from where the conversation stands to where the session does, and then
     /// the segment, where one is given. The handshake is the gateway's EXCSAT on a conversation that was dialled, then ACCSEC, SECCHK,
     /// ACCRDB and one EXCSQLSET of the registers, as far as the stage has them, as one chain where it has at most 16,777,216 bytes
-    /// and else each as a chain of its own, and then the commands that run again, where the database was accessed. A conversation
+    /// and else each as a chain of its own, and then the commands that run again, where the database was accessed and a segment is given. A conversation
     /// that is past its server's attributes needs none. No body of the segment's commands has more than 16,777,216 bytes, and at most
     /// 4,096 commands run again.
     #[tactic(auto, unfolding(crate::specs::Talk::begun))]
@@ -129,6 +129,7 @@ impl Talk {
         ensures { OnOk result (self.new ≡ begun stage secmec (option_copied access.entry) registers.now again.now (option_copied segment.entry) self.old) }
     {
         let mut rounds = VecDeque::new(self.alloc);
+        let again = again_for(again, segment);
         self.put_needed(stage, access, secmec, registers, again, &mut rounds)?;
         put_work(self.alloc, segment, &mut rounds)?;
         self.mechanism = secmec;
@@ -146,7 +147,7 @@ impl Talk {
         access: Option<&Access>,
         secmec: u16,
         registers: &RegisterLog,
-        again: &CommandList,
+        again: &[Command],
         rounds: &mut Rounds,
     ) -> Result<(), NoMemory>
         requires { length again.now ≤ most_commands }
@@ -320,6 +321,18 @@ impl Talk {
             None if self.rounds.is_empty() => Got::Ready,
             None => Got::More,
         })
+    }
+}
+
+/// What runs again: nothing without a segment.
+fn again_for<'a>(again: &'a CommandList, segment: Option<&Segment>) -> &'a [Command]
+    ensures again { result.now ≡ again_for (option_copied segment.entry) again.now }
+    ensures few { length result.now ≤ length again.now }
+{
+    if segment.is_some() {
+        again.as_slice()
+    } else {
+        &[]
     }
 }
 

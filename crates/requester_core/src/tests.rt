@@ -171,7 +171,7 @@ fn are_commands(commands: &[Command]) -> bool
 
 /// Whether this is so of a segment, where one is given.
 fn is_sendable(segment: Option<&Segment>) -> bool
-    ensures { IsTrue result → ForSome (option_copied segment) (λ commands. AllByRecursion FitsAChain commands) }
+    ensures { IsTrue result → ForSome (option_copied segment.entry) (λ commands. AllByRecursion FitsAChain commands) }
 {
     match segment {
         Some(segment) => are_commands(segment.commands().as_slice()),
