@@ -46,9 +46,26 @@ const REGISTERS: [u8; 11] = [
     0x00, 0x0B, 0xD0, 0x03, 0x00, 0x04, 0x00, 0x05, 0x24, 0x08, 0xFF,
 ];
 
+/// All replies to the chain of access.
+const GOOD: [u8; 99] = [
+    0x00, 0x10, 0xD0, 0x43, 0x00, 0x01, 0x00, 0x0A, 0x14, 0xAC, 0x00, 0x06, 0x11, 0xA2, 0x00, 0x03,
+    0x00, 0x15, 0xD0, 0x42, 0x00, 0x02, 0x00, 0x0F, 0x12, 0x19, 0x00, 0x06, 0x11, 0x49, 0x00, 0x00,
+    0x00, 0x05, 0x11, 0xA4, 0x00, 0x00, 0x33, 0xD0, 0x42, 0x00, 0x03, 0x00, 0x2D, 0x22, 0x01, 0x00,
+    0x06, 0x11, 0x49, 0x00, 0x00, 0x00, 0x0C, 0x11, 0x2E, 0xC7, 0xD9, 0xD7, 0xF0, 0xF1, 0xF0, 0xF1,
+    0xF0, 0x00, 0x0D, 0x00, 0x2F, 0xD8, 0xE3, 0xC4, 0xE2, 0xD8, 0xD3, 0xF3, 0xF7, 0xF0, 0x00, 0x0A,
+    0x00, 0x35, 0x00, 0x06, 0x11, 0x9C, 0x00, 0x25, 0x00, 0x0B, 0xD0, 0x03, 0x00, 0x04, 0x00, 0x05,
+    0x24, 0x08, 0xFF,
+];
+
 /// A null SQLCARD, number 1, the last of its reply.
 const DONE: [u8; 11] = [
     0x00, 0x0B, 0xD0, 0x03, 0x00, 0x01, 0x00, 0x05, 0x24, 0x08, 0xFF,
+];
+
+/// A null SQLCARD of each of two commands.
+const TWICE_DONE: [u8; 22] = [
+    0x00, 0x0B, 0xD0, 0x43, 0x00, 0x01, 0x00, 0x05, 0x24, 0x08, 0xFF, 0x00, 0x0B, 0xD0, 0x03, 0x00,
+    0x02, 0x00, 0x05, 0x24, 0x08, 0xFF,
 ];
 
 /// A SQLCARD with SQLCODE -104 in EBCDIC, number 1, the last of its reply.
@@ -193,6 +210,67 @@ fn begin(
     } else {
         Err(Fail::from("too much"))
     }
+}
+
+/// The first segment, where there is one.
+fn commands_of(segments: &SegmentList) -> Result<&CommandList, Fail> {
+    Ok(segments.get(0).ok_or("a segment")?.commands())
+}
+
+/// The conversation begins with access, two registers, a SET that runs again, and a commit.
+fn begun(alloc: Global, is_dialled: bool) -> Result<Talk, Fail> {
+    let name = name()?;
+    let log = registers(alloc, 2)?;
+    let given = access(alloc)?;
+    let set = segments_of(alloc, &SET)?;
+    let work = segments_of(alloc, &COMMIT)?;
+    let mut talk = if is_dialled {
+        Talk::dialled(alloc, &name)
+    } else {
+        Talk::idle(alloc, &name)
+    };
+    begin(
+        &mut talk,
+        Stage::Accessed,
+        Some(&given),
+        &log,
+        commands_of(&set)?,
+        work.get(0),
+    )?;
+    Ok(talk)
+}
+
+/// The conversation begins with these registers alone, or with its mechanism alone where there are none.
+fn replaying(alloc: Global, count: u8) -> Result<Talk, Fail> {
+    let log = registers(alloc, count)?;
+    let given = access(alloc)?;
+    let stage = if count > 0 {
+        Stage::Accessed
+    } else {
+        Stage::Chosen
+    };
+    let mut talk = Talk::idle(alloc, &name()?);
+    begin(
+        &mut talk,
+        stage,
+        Some(&given),
+        &log,
+        &Sequence::new(alloc),
+        None,
+    )?;
+    Ok(talk)
+}
+
+/// What the reply of this number comes to, where those before it are good.
+fn comes_to(alloc: Global, is_dialled: bool, which: usize, bad: &[u8]) -> Result<Seen, Fail> {
+    let mut talk = begun(alloc, is_dialled)?;
+    if is_dialled && which > 0 {
+        answered(&mut talk, &[&HELLO])?;
+    }
+    if which == 2 {
+        answered(&mut talk, &[&GOOD])?;
+    }
+    answered(&mut talk, &[bad])
 }
 
 /// Sends all of the chain in work, and tells how many bytes it has.
@@ -347,23 +425,11 @@ fn reads_replies(rt: HostRuntime) -> Result<(), Fail> {
 fn reads_bytes_one_by_one(rt: HostRuntime) -> Result<(), Fail> {
     let mut talk = working(rt.alloc(), &INSERTS, 0)?;
     send_all(&mut talk)?;
-    let reply = joined(
-        rt.alloc(),
-        &[
-            &[
-                0x00, 0x0B, 0xD0, 0x43, 0x00, 0x01, 0x00, 0x05, 0x24, 0x08, 0xFF,
-            ],
-            &[
-                0x00, 0x0B, 0xD0, 0x03, 0x00, 0x02, 0x00, 0x05, 0x24, 0x08, 0xFF,
-            ],
-        ],
-    )?;
-    let (last, front) = reply.split_last().ok_or("a reply")?;
-    for byte in front {
+    for byte in &TWICE_DONE[..21] {
         assert_eq!(rt; kind_of(&talk.on_back(&[*byte])?), Seen::More);
     }
-    assert_eq!(rt; talk.mark().unread, front.len());
-    assert_eq!(rt; kind_of(&talk.on_back(&[*last])?), Seen::Whole);
+    assert_eq!(rt; talk.mark().unread, 21);
+    assert_eq!(rt; kind_of(&talk.on_back(&TWICE_DONE[21..])?), Seen::Whole);
     assert_eq!(rt; talk.mark().unread, 0);
     Ok(())
 }
@@ -529,53 +595,11 @@ fn refuses_access(rt: HostRuntime) -> Result<(), Fail> {
             &[&[0x00, 0x0A, 0xD0, 0x02, 0x00, 0x01, 0x00, 0x04, 0x12, 0x45]],
         ),
     ];
-    let alloc = rt.alloc();
-    let log = registers(alloc, 2)?;
-    let given = access(alloc)?;
-    let set = segments_of(alloc, &SET)?;
-    let again = set.get(0).ok_or("a segment")?;
-    let segments = segments_of(alloc, &COMMIT)?;
-    let good = joined(alloc, &[&MECHANISM, &ADMISSION, &ACCESS, &REGISTERS])?;
     for (which, parts) in rows {
-        let bad = joined(alloc, parts)?;
-        let replies: [&[u8]; 3] = [
-            if which == 0 { bad.as_slice() } else { &HELLO },
-            if which == 1 {
-                bad.as_slice()
-            } else {
-                good.as_slice()
-            },
-            if which == 2 { bad.as_slice() } else { &DONE },
-        ];
-        let mut dialled = Talk::dialled(alloc, &name()?);
-        begin(
-            &mut dialled,
-            Stage::Accessed,
-            Some(&given),
-            &log,
-            again.commands(),
-            segments.get(0),
-        )?;
-        assert_eq!(rt; answered(&mut dialled, &replies[..which])?, Seen::More);
-        assert_eq!(rt;
-            answered(&mut dialled, &replies[which..which + 1])?,
-            Seen::Refused
-        );
+        let bad = joined(rt.alloc(), parts)?;
+        assert_eq!(rt; comes_to(rt.alloc(), true, which, &bad)?, Seen::Refused);
         if which > 0 {
-            let mut idle = Talk::idle(alloc, &name()?);
-            begin(
-                &mut idle,
-                Stage::Accessed,
-                Some(&given),
-                &log,
-                again.commands(),
-                segments.get(0),
-            )?;
-            assert_eq!(rt; answered(&mut idle, &replies[1..which])?, Seen::More);
-            assert_eq!(rt;
-                answered(&mut idle, &replies[which..which + 1])?,
-                Seen::Refused
-            );
+            assert_eq!(rt; comes_to(rt.alloc(), false, which, &bad)?, Seen::Refused);
         }
     }
     Ok(())
@@ -584,26 +608,9 @@ fn refuses_access(rt: HostRuntime) -> Result<(), Fail> {
 /// Access is given on both paths: the segment follows with its asking, and a byte of it counts as one of the segment alone.
 #[test]
 fn gives_access(rt: HostRuntime) -> Result<(), Fail> {
-    let alloc = rt.alloc();
-    let log = registers(alloc, 2)?;
-    let given = access(alloc)?;
-    let set = segments_of(alloc, &SET)?;
-    let again = set.get(0).ok_or("a segment")?;
-    let segments = segments_of(alloc, &COMMIT)?;
-    let good = joined(alloc, &[&MECHANISM, &ADMISSION, &ACCESS, &REGISTERS])?;
-    let replies: [&[u8]; 3] = [&HELLO, &good, &DONE];
-    for (first, mut talk) in [
-        (0, Talk::dialled(alloc, &name()?)),
-        (1, Talk::idle(alloc, &name()?)),
-    ] {
-        begin(
-            &mut talk,
-            Stage::Accessed,
-            Some(&given),
-            &log,
-            again.commands(),
-            segments.get(0),
-        )?;
+    let replies: [&[u8]; 3] = [&HELLO, &GOOD, &DONE];
+    for (is_dialled, first) in [(true, 0), (false, 1)] {
+        let mut talk = begun(rt.alloc(), is_dialled)?;
         for reply in &replies[first..] {
             send_all(&mut talk)?;
             assert_eq!(rt; talk.in_segment(), false);
@@ -612,7 +619,7 @@ fn gives_access(rt: HostRuntime) -> Result<(), Fail> {
         assert_eq!(rt; talk.mark().stage, Stage::Accessed);
         assert_eq!(rt; talk.to_send(), &ASKED_COMMIT[..]);
         assert_eq!(rt; talk.in_segment(), false);
-        talk.on_sent(1)?;
+        send_all(&mut talk)?;
         assert_eq!(rt; talk.in_segment(), true);
     }
     Ok(())
@@ -621,25 +628,20 @@ fn gives_access(rt: HostRuntime) -> Result<(), Fail> {
 /// A handshake with 64 registers on an idle conversation is one round, and its chain the one that is replayed.
 #[test]
 fn replays_in_one_round(rt: HostRuntime) -> Result<(), Fail> {
-    let alloc = rt.alloc();
-    let log = registers(alloc, 64)?;
-    let given = access(alloc)?;
-    let good = joined(alloc, &[&MECHANISM, &ADMISSION, &ACCESS, &REGISTERS])?;
-    let mut talk = Talk::idle(alloc, &name()?);
-    begin(
-        &mut talk,
-        Stage::Accessed,
-        Some(&given),
-        &log,
-        &Sequence::new(alloc),
-        None,
-    )?;
-    let chain = replay_chain(alloc, &name()?, Stage::Accessed, 3, Some(&given), &log)?;
+    let mut talk = replaying(rt.alloc(), 64)?;
+    let chain = replayed_chain(rt.alloc(), 64)?;
     assert_eq!(rt; talk.to_send(), chain.as_slice());
-    assert_eq!(rt; answered(&mut talk, &[good.as_slice()])?, Seen::Ready);
+    assert_eq!(rt; answered(&mut talk, &[&GOOD])?, Seen::Ready);
     assert_eq!(rt; talk.to_send().len(), 0);
     assert_eq!(rt; talk.mark().stage, Stage::Accessed);
     Ok(())
+}
+
+/// The chain that leads to access and these registers.
+fn replayed_chain(alloc: Global, count: u8) -> Result<Octets, Fail> {
+    let log = registers(alloc, count)?;
+    let given = access(alloc)?;
+    Ok(replay_chain(alloc, &name()?, Stage::Accessed, 3, Some(&given), &log)?)
 }
 
 /// ACCRDBRM that can't be read in the reply to the session's own ACCRDB refuses access.
@@ -654,30 +656,26 @@ fn reads_the_answer_to_accrdb(rt: HostRuntime) -> Result<(), Fail> {
 /// The first byte beyond what a reply may have: in the reply to the segment, and in one of a handshake.
 #[test]
 fn refuses_long_replies(rt: HostRuntime) -> Result<(), Fail> {
-    let alloc = rt.alloc();
-    let mut piece = joined(alloc, &[&FULL])?;
+    let mut piece = joined(rt.alloc(), &[&FULL])?;
     piece.resize(32_767, 0)?;
-    let mut access = Talk::idle(alloc, &name()?);
-    begin(
-        &mut access,
-        Stage::Chosen,
-        None,
-        &registers(alloc, 0)?,
-        &Sequence::new(alloc),
-        None,
-    )?;
-    for (mut talk, wanted) in [
-        (working(alloc, &INSERT, 0)?, Seen::TooLong),
-        (access, Seen::Refused),
-    ] {
-        send_all(&mut talk)?;
-        for _ in 0..1024 {
-            assert_eq!(rt; kind_of(&talk.on_back(&piece)?), Seen::More);
-        }
-        assert_eq!(rt; kind_of(&talk.on_back(&piece[..1024])?), Seen::More);
-        assert_eq!(rt; kind_of(&talk.on_back(&[0])?), wanted);
-    }
+    let work = working(rt.alloc(), &INSERT, 0)?;
+    assert_eq!(rt; beyond(work, &piece)?, Seen::TooLong);
+    let handshake = replaying(rt.alloc(), 0)?;
+    assert_eq!(rt; beyond(handshake, &piece)?, Seen::Refused);
     Ok(())
+}
+
+/// What the first byte beyond the limit comes to, behind DSSs of 32,767 bytes.
+fn beyond(talk: Talk, piece: &[u8]) -> Result<Seen, Fail> {
+    let mut talk = talk;
+    send_all(&mut talk)?;
+    for _ in 0..1024 {
+        talk.on_back(piece)?;
+    }
+    if let Some((front, _)) = piece.split_at_checked(1024) {
+        talk.on_back(front)?;
+    }
+    Ok(kind_of(&talk.on_back(&[0])?))
 }
 
 /// A loss of each kind.
