@@ -1,4 +1,4 @@
-ghost use Rattle.std.specs.Prelude.{◌≡◌, ◌≤◌, None, drop, length, slice_get, IfErr, IfSome, OnOk};
+ghost use Rattle.std.specs.Prelude.{◌≡◌, ◌+◌, ◌≤◌, None, drop, length, slice_get, IfErr, IfSome, OnOk};
 ghost use Rattle.dss_frame.specs.Fault.{answer_of};
 ghost use Rattle.dss_frame.specs.Reading.{start, fed, Stopped};
 ghost use Rattle.dss_frame.specs.Held.{held_of};
@@ -103,9 +103,23 @@ impl Reader {
     pub fn take(&mut self) -> Option<Placed>
         ensures first { result ≡ slice_get self.old.whole 0 }
         ensures rest { self.new ≡ record self.old { whole = drop 1 self.old.whole } }
-        ensures within { IfSome result (λ placed. length placed.dss.body ≤ self.old.limit) }
+        ensures within { IfSome result (λ placed. length placed.dss.body + 6 ≤ self.old.limit) }
     {
         self.whole.pop_front()
+    }
+
+    /// The place where the DSS begins that isn't whole yet.
+    pub fn place(&self) -> u64
+        ensures { result ≡ self.now.position.at }
+    {
+        self.position.at
+    }
+
+    /// The bytes of that DSS so far; none after a fault.
+    pub fn begun(&self) -> &[u8]
+        ensures { result.now ≡ self.now.open }
+    {
+        self.unread.as_slice()
     }
 
     /// The fault that ended the reading, if one did.

@@ -21,8 +21,8 @@ pub(crate) struct FaultInBody {
     pub(crate) err: u8,
 }
 
-/// The code point of the object that a body is, 0 where it is none.
-pub(crate) fn code_of(body: &[u8]) -> u16
+/// The code point of the object that a body is, 0 where it is none (DRDA, volume 3, RQSDSS).
+pub fn code_of(body: &[u8]) -> u16
     ensures { result ≡ code_of body.now }
 {
     match outer(body) {
@@ -31,8 +31,8 @@ pub(crate) fn code_of(body: &[u8]) -> u16
     }
 }
 
-/// The data of the object that a body is, none where it is no object.
-pub(crate) fn data_of(body: &[u8]) -> &[u8]
+/// The data of the object that a body is, none where it is no object (DRDA, volume 3, RQSDSS).
+pub fn data_of(body: &[u8]) -> &[u8]
     ensures data { result.now ≡ data_of body.now }
     ensures size { length result.now ≤ length body.now - 4 }
 {

@@ -137,8 +137,8 @@ impl RegisterLog {
         write_chain(self.alloc, &commands)
     }
 
-    /// The command that sets all registers again.
-    fn command(&self) -> Result<Command, NoMemory>
+    /// The command that sets all registers again: one EXCSQLSET with number 1, and each statement in an object of its own.
+    pub fn command(&self) -> Result<Command, NoMemory>
         ensures { IfOk result (λ command. command ≡ set_command self.now) }
     {
         let mut objects = Sequence::new(self.alloc);

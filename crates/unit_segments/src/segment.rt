@@ -1,5 +1,5 @@
 ghost use Rattle.std.specs.Prelude.{◌≡◌, ◌≤◌, ◌<◌, [], length, IfOk, OnOk};
-ghost use Rattle.unit_segments.specs.Command.{is_passed, ends_unit};
+ghost use Rattle.unit_segments.specs.Command.{ends_unit};
 ghost use Rattle.unit_segments.specs.Limit.{most_commands};
 ghost use Rattle.unit_segments.specs.Segment.{segments_of};
 ghost use Rattle.unit_segments.specs.Cut.{with_run, after_command};
@@ -38,6 +38,17 @@ impl Segment {
     {
         &self.commands
     }
+
+    /// The same segment. Its long bodies are shared.
+    pub fn share(&self, alloc: Global) -> Result<Segment, NoMemory>
+        ensures { IfOk result (λ shared. shared ≡ self.now) }
+    {
+        let mut commands = Sequence::new(alloc);
+        for command in self.commands.as_slice() {
+            commands.push(share_command(alloc, command)?)?;
+        }
+        Ok(Segment { commands })
+    }
 }
 
 /// A list of segments.
@@ -70,7 +81,7 @@ fn place(
 {
     let class = class(command.code);
     let shared = share_command(alloc, command)?;
-    if is_passed(class) {
+    if matches!(class, CodeClass::Pass) {
         return run.push(shared);
     }
     if !ends_unit(class) {
@@ -91,13 +102,6 @@ fn end_run(alloc: Global, run: &mut CommandList, segments: &mut SegmentList) -> 
     }
     let commands = mem::replace(run, Sequence::new(alloc));
     segments.push(Segment { commands })
-}
-
-/// Whether a command of this class is passed within a unit of work.
-fn is_passed(class: CodeClass) -> bool
-    ensures { result ≡ is_passed class }
-{
-    matches!(class, CodeClass::Pass)
 }
 
 /// Whether a command of this class ends a unit of work.

@@ -22,8 +22,8 @@ fn share_all(alloc: Global, all: &OctetsList) -> Result<OctetsList, NoMemory>
     Ok(shared)
 }
 
-/// The same command.
-pub(crate) fn share_command(alloc: Global, command: &Command) -> Result<Command, NoMemory>
+/// The same command. Its long bodies are shared.
+pub fn share_command(alloc: Global, command: &Command) -> Result<Command, NoMemory>
     ensures { IfOk result (λ shared. shared ≡ command.now) }
 {
     Ok(Command {

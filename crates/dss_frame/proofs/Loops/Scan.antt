@@ -21,7 +21,7 @@ use Rattle.dss_frame.specs.Reading.{View, fed, Stopped, step_of, position_after,
 use Rattle.dss_frame.specs.Scan.{at_position, kept_by, Scanned}
 use Rattle.link_ends.proofs.Lists.{all_push}
 use Rattle.dss_frame.proofs.OneDss.Judging.{whole_dss}
-use Rattle.dss_frame.proofs.OneDss.Whole.{ends_take, dss_size}
+use Rattle.dss_frame.proofs.OneDss.Whole.{ends_take, whole_size}
 use Rattle.dss_frame.proofs.Pieces.NextStep.{IsRead, is_read}
 use Rattle.dss_frame.proofs.Pieces.Pieces.{on_waits, all_reads, all_stops, on_ends, fed_stopped, fed_none, fed-append}
 
@@ -93,7 +93,7 @@ whole_part side bytes n e =
 -- ---- what is kept of the sizes
 
 abbrev BodyFits : ℕ → Placed → Type 0
-BodyFits limit placed = length placed.dss.body ≤ limit
+BodyFits limit placed = length placed.dss.body + 6 ≤ limit
 
 room_within : (b : Bool) (room count limit : ℕ) → room ≤ limit → cond b (room - count) limit ≤ limit
 room_within true room count limit h = omega arith
@@ -108,13 +108,13 @@ on_within =
     on_ends Keeps (λ v h. h) (λ v r n step goes h.
     let read = is_read v.side v.position v.open n step in
     let d : Dss = dss_of (take n v.open) in
-    let size = dss_size (take n v.open) in
+    let size = whole_size v.side v.open n read.ends in
     goes (record {
       bodies = all_push (BodyFits v.limit) v.whole (record {
         at = v.position.at;
         dss =
             d;
-      }) h.bodies (omega (arith, size, length-take n v.open, read.room, h.room));
+      }) h.bodies (omega (arith, size, read.room, h.room));
       room = room_within d.chained v.position.room n v.limit h.room;
     })) (λ v fault step h. h)
 
