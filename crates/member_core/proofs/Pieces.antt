@@ -11,7 +11,8 @@ use Rattle.unit_segments.specs.declared.fault.ChainFault.{ChainFault}
 use Rattle.unit_segments.specs.Chain.{OpenChain, chain_after, chain_step, Chains, with_chain, chains_by, chains_from}
 use Rattle.unit_segments.proofs.ReadChains.{chains_step, chains_end}
 use Rattle.plain_model.specs.Group.{Meaning}
-use Rattle.member_core.specs.Conversation.{ConversationState, Member, after_chain, after_chains, closed, closing_reply, chain_fault_reply, settled_by, settled, taken}
+use Rattle.member_core.specs.Conversation.{ConversationState, Member, after_chain, after_chains, closed, closing_reply, chain_fault_reply}
+use Rattle.member_core.specs.Conversation.{settled_by, settled, taken}
 use Rattle.member_core.specs.Steps.{member}
 use Rattle.member_core.proofs.Settling.{moved, ends_by, settled_moved}
 

@@ -49,10 +49,11 @@ settles_by {S} {U} m w others next (Err fault) =
     let after : Member S U = after_dss_by m next (Err fault) (left_to others w) in
     sym (ap (λ read. settled_by m unread read after) (chains_end no_chain))
 settles_by m w others next (Ok None) =
-    sym (settled_moved m w.conversation.reader (record w.conversation.reader { whole = others }) others w.conversation.reader.whole (chains_from next others) next w)
+    let reader : View = w.conversation.reader in
+    sym (settled_moved m reader (record reader { whole = others }) others reader.whole (chains_from next others) next w)
 settles_by m w others next (Ok (Some commands)) =
-    sym (settled_moved m w.conversation.reader (record w.conversation.reader { whole = others }) others w.conversation.reader.whole (chains_from next others) next
-    (after_chain m commands w))
+    let reader : View = w.conversation.reader in
+    sym (settled_moved m reader (record reader { whole = others }) others reader.whole (chains_from next others) next (after_chain m commands w))
 
 -- the first DSS is taken
 settles_on : {S U : Type 0} (m : Meaning S U) (w : Member S U) (placed : Placed) (others : List Placed) →
@@ -88,9 +89,10 @@ pub goes_on : {S U : Type 0} (m : Meaning S U) (before taken now : ConversationS
     settled m now.reader (member now shared_now) ≡ settled m before.reader (member before shared)
 goes_on {S} {U} m before taken now shared shared_now placed first rest now_is shared_is =
     let w : Member S U = member before shared in
+    let after : Member S U = after_dss m placed (member taken shared) in
     let made : ConversationState U → S → Member S U = λ c s. member c s in
     ap (λ c. settled m c.reader (made c shared_now)) now_is
-    ∙ ap (λ s. settled m (after_dss m placed (member taken shared)).conversation.reader (made (after_dss m placed (member taken shared)).conversation s)) shared_is
+    ∙ ap (λ s. settled m after.conversation.reader (made after.conversation s)) shared_is
     ∙ ap (λ t. settled m (after_dss m placed (member t shared)).conversation.reader (after_dss m placed (member t shared))) rest
     ∙ sym (settles_on m w placed (drop 1 before.reader.whole) (first_is before.reader.whole placed first))
 

@@ -3,3 +3,4 @@ pub mod ChainRun
 pub mod Conversation
 pub mod Steps
 pub mod SmallGroup
+pub mod SmallLaws

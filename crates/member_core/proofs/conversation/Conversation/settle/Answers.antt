@@ -13,14 +13,14 @@ pub returns-clause-conversation : goal.returns-clause-conversation
 returns-clause-conversation g c =
     on_ok_weaker c.stop.result
     (λ is. ap (λ (w : Member _ _). w.conversation)
-    (comes_to g.G.Group.meaning c.loop-placed.self c.next.new.self c.stop.new.self c.loop-placed.group (sym c.in_default.is ∙ c.next.ensures.first) c.next.ensures.rest is
-    ∙ c.loop-placed.invariant))
+    (comes_to g.G.Group.meaning c.loop-placed.self c.next.new.self c.stop.new.self c.loop-placed.group
+    (sym c.in_default.is ∙ c.next.ensures.first) c.next.ensures.rest is ∙ c.loop-placed.invariant))
     c.stop.ensures
 
 pub returns-clause-shared : goal.returns-clause-shared
 returns-clause-shared g c =
     on_ok_weaker c.stop.result
     (λ is. ap (λ (w : Member _ _). w.shared)
-    (comes_to g.G.Group.meaning c.loop-placed.self c.next.new.self c.stop.new.self c.loop-placed.group (sym c.in_default.is ∙ c.next.ensures.first) c.next.ensures.rest is
-    ∙ c.loop-placed.invariant))
+    (comes_to g.G.Group.meaning c.loop-placed.self c.next.new.self c.stop.new.self c.loop-placed.group
+    (sym c.in_default.is ∙ c.next.ensures.first) c.next.ensures.rest is ∙ c.loop-placed.invariant))
     c.stop.ensures

@@ -1,5 +1,6 @@
--- The small group keeps the laws of groups.
+-- The small group keeps the laws of groups. No standard speaks of it: this is this project's own.
 use Rattle.std.proofs.Common.{◌≡◌, ◌≢◌, ◌≤◌, ℕ, Bool, true, false, List, [], ◌∷◌, map, Option, Some, None, is_some, refl, sym, ap, ◌∙◌, subst, arith, cond, eqb}
+use Rattle.std.proofs.lemmas.Bool.{false≢true, leb-true}
 use Rattle.std.specs.List.{AllByRecursion}
 use Rattle.dss_frame.specs.declared.dss.Dss.{Dss}
 use Rattle.ddm_objects.specs.Objects.{extent_at, object_at, first_object}
@@ -52,12 +53,16 @@ reply_by is_accrdb is_statement number =
 
 is_reply_by : (a b : Bool) (c : Command) → IsReplyTo c (reply_by a b c.corr)
 unfolding extent_at object_at first_object members_within parameter typdef_of ebcdic_of ascii_of
-is_reply_by true b c = record { number = refl; kind = refl; readable = λ _. (omega arith, refl) }
-is_reply_by false true c = record { number = refl; kind = refl; readable = λ e. absurd cc }
-is_reply_by false false c = record { number = refl; kind = refl; readable = λ e. absurd cc }
+is_reply_by true b c = record { number = refl; kind = refl; readable = λ _. (leb-true 45 16777216 refl, refl) }
+is_reply_by false true c = record { number = refl; kind = refl; readable = λ e. absurd (false≢true e) }
+is_reply_by false false c = record { number = refl; kind = refl; readable = λ e. absurd (false≢true e) }
+
+abbrev is_nil : List Dss → Bool
+is_nil [] = true
+is_nil (d ∷ replies) = false
 
 are_replies : (c : Command) → AreReplies c (small_reply c.code c.corr ∷ [])
-are_replies c = record { some = λ e. absurd cc; each = (is_reply_by (eqb c.code accrdb) (eqb c.code excsqlimm) c, tt) }
+are_replies c = record { some = λ e. absurd (false≢true (ap is_nil e)); each = (is_reply_by (eqb c.code accrdb) (eqb c.code excsqlimm) c, tt) }
 
 ends_by : (a b : Bool) (number : ℕ) → ends (reply_by a b number ∷ []) ≡ false
 unfolding extent_at object_at first_object
@@ -121,7 +126,9 @@ small_laws {S} = record {
   asking_same_data = λ s u c a b i. refl;
   asking_same_replies = λ s u c a b i. ap (λ (r : Dss). without_asked c (r ∷ [])) (asked_reply c ∙ sym (unasked_reply c));
   asking_same_unit = λ s u c a b i e. refl;
-  anywhere = λ s u c a b i d same. (same_by s c d (unasked c) (unasked d) same (unasked_reply c) (unasked_numbered d), same_by s c d (asked c) (asked d) same (asked_reply c) (asked_numbered d));
+  anywhere = λ s u c a b i d same.
+      (same_by s c d (unasked c) (unasked d) same (unasked_reply c) (unasked_numbered d),
+      same_by s c d (asked c) (asked d) same (asked_reply c) (asked_numbered d));
   released = λ st s u c a b i e f g h j. (refl, refl);
   held = λ st s u c a b i e f g h j. tt;
   greeted = λ typ mechanism. leads_all S mechanism (own_command excsat hello_object ∷ []) typ;
