@@ -126,9 +126,10 @@ small_laws {S} = record {
   asking_same_data = λ s u c a b i. refl;
   asking_same_replies = λ s u c a b i. ap (λ (r : Dss). without_asked c (r ∷ [])) (asked_reply c ∙ sym (unasked_reply c));
   asking_same_unit = λ s u c a b i e. refl;
-  anywhere = λ s u c a b i d same.
-      (same_by s c d (unasked c) (unasked d) same (unasked_reply c) (unasked_numbered d),
-      same_by s c d (asked c) (asked d) same (asked_reply c) (asked_numbered d));
+  anywhere = λ s u c a b i d same. (
+    same_by s c d (unasked c) (unasked d) same (unasked_reply c) (unasked_numbered d),
+    same_by s c d (asked c) (asked d) same (asked_reply c) (asked_numbered d),
+  );
   released = λ st s u c a b i e f g h j. (refl, refl);
   held = λ st s u c a b i e f g h j. tt;
   greeted = λ typ mechanism. leads_all S mechanism (own_command excsat hello_object ∷ []) typ;

@@ -234,20 +234,26 @@ fn is(conversation: &Conversation<Small>, outcome: Outcome) -> bool {
         && conversation.dead() == outcome.dead
 }
 
+/// A conversation that has taken these bytes one by one.
+fn took_bytes(alloc: Global, list: &ServerList, bytes: &[u8]) -> Result<Conversation<Small>, Fail> {
+    let mut group = Small { alloc };
+    let mut conversation = Conversation::new(alloc, &group, list)?;
+    for byte in bytes {
+        conversation.take(&mut group, &[*byte])?;
+    }
+    Ok(conversation)
+}
+
 /// Bytes are answered the same at once and byte by byte; a dead conversation takes nothing more.
 #[test]
 fn answers_pieces(rt: HostRuntime) -> Result<(), Fail> {
     let list = ServerList::new();
     for (bytes, outcome) in ROWS {
         assert!(rt; is(&took(rt.alloc(), &list, &[bytes])?, outcome));
-        let mut group = Small { alloc: rt.alloc() };
-        let mut conversation = Conversation::new(rt.alloc(), &group, &list)?;
-        for byte in bytes {
-            conversation.take(&mut group, &[*byte])?;
-        }
+        let mut conversation = took_bytes(rt.alloc(), &list, bytes)?;
         assert!(rt; is(&conversation, outcome));
         if outcome.dead {
-            conversation.take(&mut group, &EXCSQLIMM_ALONE)?;
+            conversation.take(&mut Small { alloc: rt.alloc() }, &EXCSQLIMM_ALONE)?;
             assert!(rt; is(&conversation, outcome));
         }
         conversation.drop_conversation();
@@ -255,15 +261,9 @@ fn answers_pieces(rt: HostRuntime) -> Result<(), Fail> {
     Ok(())
 }
 
-/// Access is told with the list behind its parameters, unless the list has no rows; another reply never is.
-#[test]
-fn tells_its_list(rt: HostRuntime) -> Result<(), Fail> {
+/// Member 2 of weight 5, and member 1 of weight 0.
+fn two_members() -> ServerList {
     let mut list = ServerList::new();
-    let mut plain = Vec::new(rt.alloc());
-    plain.extend_from_slice(&[0x00, 0x33, 0xD0, 0x02, 0x00, 0x01])?;
-    plain.extend_from_slice(&ACCESS_GIVEN)?;
-    let conversation = took(rt.alloc(), &list, &[&ACCRDB_ALONE])?;
-    assert!(rt; conversation.out() == plain.as_slice());
     list.push(ServerRow {
         member: 2,
         weight: 5,
@@ -272,56 +272,88 @@ fn tells_its_list(rt: HostRuntime) -> Result<(), Fail> {
         member: 1,
         weight: 0,
     });
-    let mut listed = Vec::new(rt.alloc());
-    listed.extend_from_slice(&[0x00, 0x41, 0xD0, 0x02, 0x00, 0x01, 0x00, 0x3B, 0x22, 0x01])?;
-    listed.extend_from_slice(&ACCESS_GIVEN[4..])?;
-    listed.extend_from_slice(&SRVLST)?;
-    listed.extend_from_slice(&DONE_ALONE)?;
-    let conversation = took(rt.alloc(), &list, &[&ACCRDB_ALONE, &EXCSQLIMM_ALONE])?;
+    list
+}
+
+/// The parameters of ACCRDBRM behind these bytes, and others behind them.
+fn access(alloc: Global, front: &[u8], back: &[u8]) -> Result<Vec<u8>, Fail> {
+    let mut bytes = Vec::new(alloc);
+    bytes.extend_from_slice(front)?;
+    bytes.extend_from_slice(&ACCESS_GIVEN[4..])?;
+    bytes.extend_from_slice(back)?;
+    Ok(bytes)
+}
+
+/// Access is told with the list behind its parameters, unless the list has no rows; another reply never is.
+#[test]
+fn tells_its_list(rt: HostRuntime) -> Result<(), Fail> {
+    let front = [0x00, 0x33, 0xD0, 0x02, 0x00, 0x01, 0x00, 0x2D, 0x22, 0x01];
+    let plain = access(rt.alloc(), &front, &[])?;
+    let conversation = took(rt.alloc(), &ServerList::new(), &[&ACCRDB_ALONE])?;
+    assert!(rt; conversation.out() == plain.as_slice());
+    let front = [0x00, 0x41, 0xD0, 0x02, 0x00, 0x01, 0x00, 0x3B, 0x22, 0x01];
+    let listed = access(rt.alloc(), &front, &SRVLST)?;
+    let conversation = took(rt.alloc(), &two_members(), &[&ACCRDB_ALONE])?;
     assert!(rt; conversation.out() == listed.as_slice());
+    let conversation = took(rt.alloc(), &two_members(), &[&EXCSQLIMM_ALONE])?;
+    assert!(rt; conversation.out() == DONE_ALONE.as_slice());
     Ok(())
 }
 
-/// The command or the byte that is one too many is answered RSCLMTRM with its number, nothing of its chain is run, and
-/// nothing more is taken.
+/// RSCLMTRM of a limit, with number 2.
+const PAST_LIMIT: Outcome = Outcome {
+    answered: &[
+        0x00, 0x10, 0xD0, 0x02, 0x00, 0x02, 0x00, 0x0A, 0x12, 0x33, 0x00, 0x06, 0x11, 0x49, 0x00,
+        0x08,
+    ],
+    ran: &[],
+    dead: true,
+};
+
+/// How many bytes a segment of a DSS has at most.
+const SEGMENT: usize = 32_767;
+
+/// A conversation that has taken a piece, another one so many times, a last one, and then a statement.
+fn took_many(
+    alloc: Global,
+    first: &[u8],
+    further: &[u8],
+    count: u32,
+    last: &[u8],
+) -> Result<Conversation<Small>, Fail> {
+    let mut group = Small { alloc };
+    let mut conversation = Conversation::new(alloc, &group, &ServerList::new())?;
+    conversation.take(&mut group, first)?;
+    for _ in 0..count {
+        conversation.take(&mut group, further)?;
+    }
+    conversation.take(&mut group, last)?;
+    conversation.take(&mut group, &EXCSQLIMM_ALONE)?;
+    Ok(conversation)
+}
+
+/// The 4,097th command is answered RSCLMTRM with its number, nothing of its chain is run, and nothing more is taken.
 #[test]
-fn stops_at_limits(rt: HostRuntime) -> Result<(), Fail> {
-    let limit_passed = |number: u8| {
-        [
-            0x00, 0x10, 0xD0, 0x02, 0x00, number, 0x00, 0x0A, 0x12, 0x33, 0x00, 0x06, 0x11, 0x49,
-            0x00, 0x08,
-        ]
-    };
-    let mut group = Small { alloc: rt.alloc() };
-    let list = ServerList::new();
-    let mut commands = Conversation::new(rt.alloc(), &group, &list)?;
-    for _ in 0..4096 {
-        commands.take(
-            &mut group,
-            &[0x00, 0x0A, 0xD0, 0x41, 0x00, 0x01, 0x00, 0x04, 0x20, 0x0A],
-        )?;
-    }
-    assert!(rt; commands.out().is_empty() && !commands.dead());
-    commands.take(
-        &mut group,
-        &[0x00, 0x0A, 0xD0, 0x01, 0x00, 0x02, 0x00, 0x04, 0x20, 0x0A],
-    )?;
-    commands.take(&mut group, &EXCSQLIMM_ALONE)?;
-    assert!(rt;
-        commands.out() == limit_passed(2).as_slice() && commands.ran().is_empty() && commands.dead()
-    );
-    let mut bytes = Conversation::new(rt.alloc(), &group, &list)?;
-    let mut segment = [0u8; 32767];
-    segment[..6].copy_from_slice(&[0xFF, 0xFF, 0xD0, 0x01, 0x00, 0x03]);
-    for _ in 0..1024 {
-        bytes.take(&mut group, &segment)?;
-        segment[..6].copy_from_slice(&[0xFF, 0xFF, 0x00, 0x00, 0x00, 0x00]);
-    }
-    assert!(rt; bytes.out().is_empty() && !bytes.dead());
-    bytes.take(&mut group, &segment)?;
-    bytes.take(&mut group, &EXCSQLIMM_ALONE)?;
-    assert!(rt;
-        bytes.out() == limit_passed(3).as_slice() && bytes.ran().is_empty() && bytes.dead()
-    );
+fn counts_commands(rt: HostRuntime) -> Result<(), Fail> {
+    let command = [0x00, 0x0A, 0xD0, 0x41, 0x00, 0x01, 0x00, 0x04, 0x20, 0x0A];
+    let last = [0x00, 0x0A, 0xD0, 0x01, 0x00, 0x02, 0x00, 0x04, 0x20, 0x0A];
+    let conversation = took_many(rt.alloc(), &command, &command, 4095, &last)?;
+    assert!(rt; is(&conversation, PAST_LIMIT));
+    Ok(())
+}
+
+/// So is the first byte beyond 33,554,432, in the 1,025th segment of a DSS.
+#[test]
+fn counts_bytes(rt: HostRuntime) -> Result<(), Fail> {
+    let zeros = vec![in rt.alloc(); 0; SEGMENT]?;
+    let mut first = Vec::new(rt.alloc());
+    first.extend_from_slice(&[0xFF, 0xFF, 0xD0, 0x01, 0x00, 0x02])?;
+    first.extend_from_slice(&zeros.as_slice()[6..])?;
+    let mut further = Vec::new(rt.alloc());
+    further.extend_from_slice(&[0xFF, 0xFF])?;
+    further.extend_from_slice(&zeros.as_slice()[2..])?;
+    let further = further.as_slice();
+    let conversation = took_many(rt.alloc(), first.as_slice(), further, 1023, further)?;
+    assert!(rt; is(&conversation, PAST_LIMIT));
     Ok(())
 }
