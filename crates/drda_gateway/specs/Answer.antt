@@ -1,20 +1,16 @@
--- What one command is answered: DDM, volume 3, EXCSAT, EXCSATRD, MGRLVLRM, SYNTAXRM, RSCLMTRM. Only EXCSAT is answered at
+-- What one command is answered: DDM, volume 3, EXCSAT, EXCSATRD, MGRLVLRM, SYNTAXRM. Only EXCSAT is answered at
 -- this stage; that all else has one refusal is this project's choice.
 use Rattle.std.specs.Prelude.{ℕ, List, [], ◌∷◌, ◌++◌, ◌==◌, ◌&&◌, Bool, true, false, not, is_none, if◌then◌else◌, Option, Some, None, option_map}
 use Rattle.std.specs.Prelude.{Result, Ok, Err}
 use Rattle.dss_frame.specs.declared.dss.Dss.{Dss}
 use Rattle.dss_frame.specs.declared.dss.Kind.{Kind}
 use Rattle.dss_frame.specs.declared.dss.Kind.TheVariants.{Request, Reply, Object}
-use Rattle.dss_frame.specs.declared.fault.Why.{Why}
-use Rattle.dss_frame.specs.declared.fault.Why.TheVariants.{Short, NoD0, Format, Continue}
-use Rattle.dss_frame.specs.declared.fault.StreamFault.{StreamFault}
-use Rattle.dss_frame.specs.declared.fault.StreamFault.TheVariants.{Frame, TooLong}
 use Rattle.dss_frame.specs.Dss.{canonical}
 use Rattle.ddm_objects.specs.declared.fault.ObjFault.{ObjFault}
 use Rattle.ddm_objects.specs.Objects.{Member, outer_of}
 use Rattle.ddm_objects.specs.Members.{members_of}
 use Rattle.ddm_codepoints.specs.CodePoint.{excsat}
-use Rattle.reply_texts.specs.Closing.{last, syntax_reply, limit_reply}
+use Rattle.reply_texts.specs.Closing.{last, syntax_reply}
 use Rattle.access_handshake.specs.Excsat.{excsat_answer}
 use Rattle.access_handshake.specs.declared.excsat.ExcsatAnswer.{ExcsatAnswer}
 use Rattle.access_handshake.specs.declared.excsat.ExcsatAnswer.TheVariants.{Granted, TooLow}
@@ -57,19 +53,6 @@ answer_to dss =
     then option_map (λ params. canonical (reply_dss dss.corr (excsat_answer params))) (params_of dss.body)
     else None
 
--- DDM, volume 3, SYNERRCD: what is wrong with the bytes of a DSS
-abbrev pub syntax_error : Why → ℕ
-syntax_error Short = 0x01
-syntax_error NoD0 = 0x03
-syntax_error Format = 0x04
-syntax_error Continue = 0x05
-
 -- The one refusal of a DSS that is no lone EXCSAT. Its correlation number 0 and its SYNERRCD are this project's choice.
 abbrev pub refusal : List ℕ
 refusal = syntax_reply 0 0x04
-
--- What a reader's fault is answered, with its correlation number: a chain beyond the limit has RSCLMTRM. DDM, volume 3,
--- SYNTAXRM and RSCLMTRM.
-abbrev pub fault_reply : StreamFault → List ℕ
-fault_reply (Frame at why corr) = syntax_reply corr (syntax_error why)
-fault_reply (TooLong at corr) = limit_reply corr

@@ -6,7 +6,8 @@ use Rattle.dss_frame.specs.declared.dss.Placed.{Placed}
 use Rattle.dss_frame.specs.declared.fault.StreamFault.{StreamFault}
 use Rattle.dss_frame.specs.declared.dss.Side.TheVariants.{Requests}
 use Rattle.dss_frame.specs.Reading.{start, fed}
-use Rattle.drda_gateway.specs.Answer.{most_chain, answer_to, refusal, fault_reply}
+use Rattle.reply_texts.specs.Closing.{fault_reply}
+use Rattle.drda_gateway.specs.Answer.{most_chain, answer_to, refusal}
 use Rattle.drda_gateway.specs.Session.{SessionState}
 use Rattle.drda_gateway.specs.World.{WorldState}
 

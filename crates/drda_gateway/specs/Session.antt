@@ -7,7 +7,8 @@ use Rattle.dss_frame.specs.declared.dss.Placed.{Placed}
 use Rattle.dss_frame.specs.declared.fault.StreamFault.{StreamFault}
 use Rattle.dss_frame.specs.declared.fault.StreamFault.TheVariants.{Frame, TooLong}
 use Rattle.dss_frame.specs.Reading.{View, start, fed}
-use Rattle.drda_gateway.specs.Answer.{most_chain, answer_to, refusal, fault_reply}
+use Rattle.reply_texts.specs.Closing.{fault_reply}
+use Rattle.drda_gateway.specs.Answer.{most_chain, answer_to, refusal}
 use Rattle.drda_gateway.specs.declared.session.End.{End}
 use Rattle.drda_gateway.specs.declared.session.End.TheVariants.{Refused, Limit}
 use Rattle.drda_gateway.specs.declared.session.Need.{Need}

@@ -1,12 +1,12 @@
 ghost use Rattle.std.specs.Prelude.{◌≡◌, ◌≤◌, length, is_some, OnOk};
 ghost use Rattle.drda_gateway.specs.Report.{end_of};
 ghost use Rattle.drda_gateway.specs.Session.{appended, begun, can_take, closed, end_by, fresh, is_saying, need_of, said_more, taken_more};
-ghost use Rattle.drda_gateway.specs.Answer.{fault_reply};
+ghost use Rattle.reply_texts.specs.Closing.{fault_reply};
 
-use crate::answer::{NOT_SUPPORTED, answer, syntax_error};
+use crate::answer::{NOT_SUPPORTED, answer};
 use dss_frame::{FeedFault, Reader, Side, StreamFault};
 use link_ends::{NoMemory, Octets};
-use reply_texts::{limit_dss, syntax_dss};
+use reply_texts::{limit_dss, syntax_dss, syntax_error};
 use std::alloc::Global;
 use std::marker::Model;
 

@@ -9,8 +9,8 @@ use unit_segments::Command;
 /// Members that share data. Its value is the data; what a command does to them and to the unit of a conversation, and what
 /// it is answered, is said by its meaning, and the laws hold of that. DRDA, volume 1, units of work.
 pub trait Group {
-    /// What a conversation has of its own: its access, its open unit of work, its registers.
-    type Unit;
+    /// What a conversation has of its own: its access, its open unit of work, its registers. It can be let go of at any time.
+    type Unit: Drop;
 
     /// What each command does and is answered.
     ghost meaning: { Meaning Self Self.Unit };

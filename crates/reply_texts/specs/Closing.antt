@@ -4,6 +4,10 @@ use Rattle.std.specs.Prelude.{ℕ, negsuc, Bool, true, false, List, [], ◌∷�
 use Rattle.dss_frame.specs.declared.dss.Dss.{Dss}
 use Rattle.dss_frame.specs.declared.dss.Kind.{Kind}
 use Rattle.dss_frame.specs.declared.dss.Kind.TheVariants.{Reply, Object}
+use Rattle.dss_frame.specs.declared.fault.Why.{Why}
+use Rattle.dss_frame.specs.declared.fault.Why.TheVariants.{Short, NoD0, Format, Continue}
+use Rattle.dss_frame.specs.declared.fault.StreamFault.{StreamFault}
+use Rattle.dss_frame.specs.declared.fault.StreamFault.TheVariants.{Frame, TooLong}
 use Rattle.dss_frame.specs.Dss.{canonical}
 use Rattle.ddm_objects.specs.Objects.{canonical_object}
 use Rattle.ddm_codepoints.specs.declared.typdef.TypDef.{TypDef}
@@ -37,6 +41,19 @@ limit_reply corr = canonical (last Reply corr (canonical_object rsclmtrm (severi
 -- RSCLMTRM where memory ran out: DDM, volume 3, RSCLMTRM
 unfoldable pub memory_reply : ℕ → List ℕ
 memory_reply corr = canonical (last Reply corr (canonical_object rsclmtrm (severity severe)))
+
+-- DDM, volume 3, SYNERRCD: what is wrong with the bytes of a DSS
+abbrev pub syntax_error : Why → ℕ
+syntax_error Short = 0x01
+syntax_error NoD0 = 0x03
+syntax_error Format = 0x04
+syntax_error Continue = 0x05
+
+-- What a reader's fault is answered, with its correlation number: a chain beyond the limit has RSCLMTRM. DDM, volume 3,
+-- SYNTAXRM and RSCLMTRM.
+abbrev pub fault_reply : StreamFault → List ℕ
+fault_reply (Frame at why corr) = syntax_reply corr (syntax_error why)
+fault_reply (TooLong at corr) = limit_reply corr
 
 -- What is said where no member is left: SQLCODE -30081, with SQLSTATE 08007 where the outcome of the unit of work isn't
 -- known, and else 08001. This project's choice.

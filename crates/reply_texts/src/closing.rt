@@ -7,7 +7,7 @@ ghost use Rattle.ddm_objects.specs.Objects.{canonical_object};
 ghost use Rattle.ddm_codepoints.specs.CodePoint.{svrcod};
 ghost use Rattle.reply_texts.specs.Reply.{abnuow_object};
 ghost use Rattle.reply_texts.specs.Sqlcard.{sqlcard_object};
-ghost use Rattle.reply_texts.specs.Closing.{last, before_same, syntax_reply, agent_reply, limit_reply, memory_reply, ended_card, ended_reply};
+ghost use Rattle.reply_texts.specs.Closing.{last, before_same, syntax_error, syntax_reply, agent_reply, limit_reply, memory_reply, ended_card, ended_reply};
 ghost use Rattle.reply_texts.specs.declared.sqlcard.Card.TheVariants.{Full};
 
 use crate::rdb_name::RdbName;
@@ -17,6 +17,7 @@ use byteorder::{BigEndian, ByteOrder};
 use ddm_codepoints::TypDef;
 use ddm_codepoints::code_point::{AGNPRMRM, RSCLMTRM, SVRCOD, SYNERRCD, SYNTAXRM};
 use ddm_codepoints::value::{ERROR, SEVERE};
+use dss_frame::Why;
 
 /// What stands behind the length of a reply DSS that is the last of its chain: D0 and the format byte.
 const REPLY: u16 = 0xD002;
@@ -29,6 +30,18 @@ const OBJECT: u16 = 0xD003;
 
 /// The SQLCODE of a conversation that has no member left.
 const NO_MEMBER: i32 = -30081;
+
+/// The SYNERRCD that says what is wrong with the bytes of a DSS. DDM, volume 3, SYNERRCD.
+pub fn syntax_error(why: Why) -> u8
+    ensures { result ≡ syntax_error why }
+{
+    match why {
+        Why::Short => 0x01,
+        Why::NoD0 => 0x03,
+        Why::Format => 0x04,
+        Why::Continue => 0x05,
+    }
+}
 
 /// SYNTAXRM with this SYNERRCD, as a whole DSS with this correlation number. DDM, volume 3, SYNTAXRM.
 #[tactic(auto, unfolding(crate::specs::Closing::syntax_reply, dss_frame::specs::Dss::canonical, dss_frame::specs::Dss::further))]

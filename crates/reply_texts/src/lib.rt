@@ -8,7 +8,7 @@ mod reply;
 mod sqlcard;
 mod text;
 
-pub use closing::{agnprm_dss, ended_dss, limit_dss, memory_dss, syntax_dss};
+pub use closing::{agnprm_dss, ended_dss, limit_dss, memory_dss, syntax_dss, syntax_error};
 pub use laws::written_card_is_read;
 pub use rdb_name::RdbName;
 pub use reply::{abnuow, cmdnsp, enduow, prccnv};

@@ -12,7 +12,8 @@ use std::alloc::Global;
 /// SRVLST with this list, the whole object.
 pub fn write_list(alloc: Global, list: &ServerList) -> Result<Octets, NoMemory>
     requires { 0 < length list.now.rows }
-    ensures { IfOk result (λ object. object ≡ list_object list.now) }
+    ensures object { IfOk result (λ object. object ≡ list_object list.now) }
+    ensures size { IfOk result (λ object. length object ≤ 138) }
 {
     let data = list_data(alloc, list)?;
     let mut builder = Builder::new(alloc);

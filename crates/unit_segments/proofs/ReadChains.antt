@@ -22,12 +22,12 @@ HasBytes placed = AreBytes placed.dss.body
 
 -- ---- one DSS
 
-chains_step : (chain : OpenChain) (placed : Placed) (others : List Placed) →
+pub chains_step : (chain : OpenChain) (placed : Placed) (others : List Placed) →
     chains_from chain (placed ∷ others) ≡ chains_by chain (chain_step chain placed) (chains_from (chain_after chain placed) others)
 unfolding chains_from
 chains_step chain placed others = refl
 
-chains_end : (chain : OpenChain) → chains_from chain [] ≡ record { chains = []; begun = chain; fault = None }
+pub chains_end : (chain : OpenChain) → chains_from chain [] ≡ record { chains = []; begun = chain; fault = None }
 unfolding chains_from
 chains_end chain = refl
 

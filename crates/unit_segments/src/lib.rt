@@ -31,6 +31,7 @@ pub use laws::{
 };
 pub use registers::{RegisterFault, RegisterLog};
 pub use release::ask_release;
+pub use reply::{is_object_of, tells_error};
 pub use segment::{Segment, SegmentList, cut};
 pub use share::share_command;
 pub use stripped::{Stripped, strip};

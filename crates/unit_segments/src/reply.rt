@@ -19,7 +19,7 @@ const ERROR: u16 = 8;
 pub(crate) const RELEASE: u8 = 0xF2;
 
 /// Whether the body of a reply is an object with this code point.
-pub(crate) fn is_object_of(code: u16, reply: &Dss) -> bool
+pub fn is_object_of(code: u16, reply: &Dss) -> bool
     ensures { result ≡ is_object_of code reply.now }
 {
     code_of(reply.body.as_slice()) == code
@@ -43,7 +43,7 @@ fn parameter(code: u16, reply: &Dss) -> Option<&[u8]>
 }
 
 /// Whether it is a reply message that tells an error, or worse.
-pub(crate) fn tells_error(reply: &Dss) -> bool
+pub fn tells_error(reply: &Dss) -> bool
     ensures { result ≡ tells_error reply.now }
 {
     match parameter(SVRCOD, reply) {
