@@ -62,7 +62,7 @@ owed_stands name Nothing k at = settled_stands name k.segments k at
 owed_stands name Rerouted k at = refl
 owed_stands name Unknown k at = refl
 
-finished_stands : (s : Settled) → (finished s).core.standing ≡ s.core.standing
+pub finished_stands : (s : Settled) → (finished s).core.standing ≡ s.core.standing
 finished_stands s = go s.core.segments
   where
     go : (gs : List (List Command)) → (finish_by gs s.moved s.core).core.standing ≡ s.core.standing

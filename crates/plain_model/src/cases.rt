@@ -7,7 +7,7 @@ ghost use Rattle.plain_model.specs.Plain.{Begin, Sent, Run, Answer, Lose, RunLat
 ghost use Rattle.plain_model.specs.Told.{Committed, RolledBack, ToldRerouted, ToldUnknown};
 ghost use Rattle.plain_model.specs.Example.{access, begins, one_command, runs, insert, set, open_cursor, commit, roll_back};
 ghost use Rattle.plain_model.specs.Example.{greeting, welcome, done, unit_ended, rerouted, unknown, ended, ended_unknown, no_access_left};
-ghost use Rattle.plain_model.specs.Example.{Comes, unknown_first, excsat_second, cmdnsp_reply, excsat_reply, prccnv_reply, sets_done};
+ghost use Rattle.plain_model.specs.Example.{Comes, unknown_first, excsat_second, cmdnsp_reply, excsat_reply, prccnv_reply, sets_done, set_at_sample, done_twice};
 
 /// Units that end as they are asked to.
 pub fn units_that_end()
@@ -55,6 +55,13 @@ pub fn sets_run_again()
         (welcome ++ sets_done ++ done) 0 None 0 65 1 }
     ensures one_more { Comes (access ++ Begin (Chain (replicate 64 set)) ∷ Sent ∷ replicate 64 Run ++ Answer ∷ runs set
         ++ Lose ∷ Begin (Chain (insert ∷ [])) ∷ Accept ∷ []) (welcome ++ sets_done ++ done ++ rerouted) 0 (Some ToldRerouted) 0 0 2 }
+{}
+
+/// A segment of which not all commands ran doesn't run again: its first SET is answered twice, by a SQLCARD of success and by
+/// one that is an error too, so its second never ran, though there is a SQLCARD for each.
+pub fn not_all_ran()
+    ensures stopped { Comes (access ++ Begin (Chain (set_at_sample ∷ set ∷ [])) ∷ Sent ∷ Run ∷ Answer ∷ Lose ∷ Begin (Chain (insert ∷ [])) ∷ Accept ∷ [])
+        (welcome ++ done_twice ++ rerouted) 0 (Some ToldRerouted) 0 0 2 }
 {}
 
 /// What the gateway itself answers: a code point that is no command, after which the chain goes on, or doesn't; and a command

@@ -7,7 +7,7 @@ mod group;
 mod laws;
 
 pub use cases::{
-    local_answers, losses_of_commits, losses_of_work, no_member_is_left, sets_run_again,
+    local_answers, losses_of_commits, losses_of_work, no_member_is_left, not_all_ran, sets_run_again,
     units_that_end,
 };
 pub use group::Group;
