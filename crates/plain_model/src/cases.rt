@@ -57,6 +57,29 @@ pub fn sets_run_again()
         ++ Lose ∷ Begin (Chain (insert ∷ [])) ∷ Accept ∷ []) (welcome ++ sets_done ++ done ++ rerouted) 0 (Some ToldRerouted) 0 0 2 }
 {}
 
+/// Of a lost unit, and of one that has ended, nothing runs again: the unit of the new conversation has just what came after.
+pub fn nothing_else_runs_again()
+    ensures lost { Comes (access ++ runs set ++ runs insert ++ Lose ∷ []) (welcome ++ done ++ done) 0 None 0 0 2 }
+    ensures lost_and_told { Comes (access ++ runs set ++ runs insert ++ Lose ∷ Begin (Chain (insert ∷ [])) ∷ Accept ∷ runs set)
+        (welcome ++ done ++ done ++ rerouted ++ done) 0 (Some ToldRerouted) 0 1 2 }
+    ensures commit_lost { Comes (access ++ runs set ++ Begin (Chain (commit ∷ [])) ∷ Sent ∷ Lose ∷ [])
+        (welcome ++ done) 0 None 0 0 2 }
+    ensures ended { Comes (access ++ runs set ++ runs commit ++ Lose ∷ runs insert) (welcome ++ done ++ unit_ended 1 ++ done) 1 (Some Committed) 1 1 2 }
+{}
+
+/// Access is no work of a unit: a conversation that is lost behind it is replaced without a word.
+pub fn losses_of_access()
+    ensures behind_it { Comes (access ++ Lose ∷ runs insert) (welcome ++ done) 0 None 0 1 1 }
+    ensures within_it { Comes (begins ++ one_command ++ Lose ∷ one_command) welcome 0 None 0 0 1 }
+{}
+
+/// A commit whose replies were lost isn't told as done, though it is: not where it is lost, and not where no member is left.
+pub fn lost_replies()
+    ensures not_told_yet { Comes (access ++ Begin (Chain (commit ∷ [])) ∷ Sent ∷ Run ∷ Lose ∷ []) welcome 1 None 1 0 2 }
+    ensures no_member { Comes (access ++ Begin (Chain (commit ∷ [])) ∷ Sent ∷ Run ∷ Lose ∷ NoneLeft ∷ [])
+        (welcome ++ ended_unknown) 1 (Some ToldUnknown) 1 0 2 }
+{}
+
 /// A segment of which not all commands ran doesn't run again: its first SET is answered twice, by a SQLCARD of success and by
 /// one that is an error too, so its second never ran, though there is a SQLCARD for each.
 pub fn not_all_ran()

@@ -7,8 +7,8 @@ mod group;
 mod laws;
 
 pub use cases::{
-    local_answers, losses_of_commits, losses_of_work, no_member_is_left, not_all_ran, sets_run_again,
-    units_that_end,
+    local_answers, losses_of_access, losses_of_commits, losses_of_work, lost_replies,
+    no_member_is_left, not_all_ran, nothing_else_runs_again, sets_run_again, units_that_end,
 };
 pub use group::Group;
 pub use laws::{
