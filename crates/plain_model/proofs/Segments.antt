@@ -161,7 +161,7 @@ next_number (suc ran) k (d ∷ g) c cs e = next_number ran (k + 1) g c cs e ∙ 
 
 -- ---- the number of the command that ends the unit
 
-end_from : (k : ℕ) (g : List Command) → (end_number_from k g ≡ 0) ⊎ (k ≤ end_number_from k g)
+pub end_from : (k : ℕ) (g : List Command) → (end_number_from k g ≡ 0) ⊎ (k ≤ end_number_from k g)
 end_from k [] = inl refl
 end_from k (c ∷ g) = cond_both (is_end c) k (end_number_from (k + 1) g) (λ n. (n ≡ 0) ⊎ (k ≤ n)) (λ e. inr (omega arith)) (λ e. further (end_from (k + 1) g))
   where
