@@ -20,6 +20,7 @@ use Rattle.plain_model.specs.Standing.{Standing}
 use Rattle.plain_model.specs.UnitEnd.{unasked}
 use Rattle.plain_model.specs.Group.{Meaning, Values, Laws, IsCommand, AreReplies, IsSame, Set, renumbered, led, answers, told_typdef, typdef_in}
 use Rattle.plain_model.specs.Answered.{without_error}
+use Rattle.plain_model.specs.Plain.{left_to_run}
 use Rattle.plain_model.specs.Repeats.{AreSame, renumbered_as, data_led}
 use Rattle.plain_model.specs.Succeeds.{all_replies}
 use Rattle.plain_model.proofs.Segments.{is_end, cons_nil, numbered_commands, drop_nothing, head_is, tail_is}
@@ -27,6 +28,7 @@ use Rattle.plain_model.proofs.Replies.{AreUpTo, all_append}
 use Rattle.plain_model.proofs.Runs.{and_true}
 use Rattle.plain_model.proofs.Keeps.{led_kept}
 use Rattle.plain_model.proofs.Leading.{led_same, answered_same, sets_stay}
+use Rattle.plain_model.proofs.Sounding.{sets_are}
 use Rattle.plain_model.proofs.Codes.{sqlcard_kept}
 use Rattle.plain_model.proofs.Says.{AreOthers, append_nil, all_given_back}
 
@@ -48,7 +50,7 @@ flat_both [] ts = refl
 flat_both (r ∷ rs) ts =
     ap (λ xs. r ++ xs) (flat_both rs ts) ∙ sym (append_assoc r (flat_map (λ (r : List Dss). r) rs) (flat_map (λ (r : List Dss). r) ts))
 
-answers_length : {S U : Type 0} (m : Meaning S U) (s : S) (u : U) (cs : List Command) → length (answers m s u cs) ≡ length cs
+pub answers_length : {S U : Type 0} (m : Meaning S U) (s : S) (u : U) (cs : List Command) → length (answers m s u cs) ≡ length cs
 answers_length m s u [] = refl
 answers_length m s u (c ∷ cs) = ap suc (answers_length m (m.data_after s u (unasked c)) (m.unit_after s u (unasked c)) cs)
 
@@ -123,7 +125,7 @@ pub record IsGood (typ : TypDef) (r : List Dss) : Type 0 where
 abbrev pub AreGood : TypDef → List (List Dss) → Type 0
 AreGood typ rs = AllByRecursion (IsGood typ) rs
 
-abbrev flat : List (List Dss) → List Dss
+abbrev pub flat : List (List Dss) → List Dss
 flat rs = flat_map (λ (r : List Dss). r) rs
 
 -- a reply that the application gets as such a card came as one
@@ -208,7 +210,7 @@ are_good typ g (c ∷ cs) ((d ∷ x ∷ r) ∷ rs) some size e f =
     ))
 
 -- also with other numbers
-good_renumbered : (typ : TypDef) (ds : List Command) (rs : List (List Dss)) → AreGood typ rs → AreGood typ (renumbered_as ds rs)
+pub good_renumbered : (typ : TypDef) (ds : List Command) (rs : List (List Dss)) → AreGood typ rs → AreGood typ (renumbered_as ds rs)
 good_renumbered typ [] rs all = tt
 good_renumbered typ (d ∷ ds) [] all = tt
 good_renumbered typ (d ∷ ds) (r ∷ rs) all = (
@@ -222,7 +224,7 @@ good_renumbered typ (d ∷ ds) (r ∷ rs) all = (
 )
 
 -- such replies, with the numbers of the commands, are those of SETs alone
-good_sets : (typ : TypDef) (cs ds : List Command) (rs : List (List Dss)) → AllByRecursion Set cs → AreSame cs ds → length rs ≡ length cs → AreGood typ rs
+pub good_sets : (typ : TypDef) (cs ds : List Command) (rs : List (List Dss)) → AllByRecursion Set cs → AreSame cs ds → length rs ≡ length cs → AreGood typ rs
     → sets_only typ ds (flat (renumbered_as ds rs)) ≡ true
 unfolding sets_only
 good_sets typ [] [] rs sets are size all = refl
@@ -242,7 +244,7 @@ good_sets typ (c ∷ cs) (d ∷ ds) (r ∷ rs) sets are size all =
     all_true true false x y ea eb ex ey = absurd (true≢false (sym eb))
     all_true false b x y ea eb ex ey = absurd (true≢false (sym ea))
 
-good_calm : (typ : TypDef) (rs : List (List Dss)) → AreGood typ rs → list_any tells_error (flat rs) ≡ false
+pub good_calm : (typ : TypDef) (rs : List (List Dss)) → AreGood typ rs → list_any tells_error (flat rs) ≡ false
 good_calm typ [] all = refl
 good_calm typ (r ∷ rs) all =
     ap (λ x. list_any tells_error (x ++ flat rs)) all.0.one
@@ -310,10 +312,11 @@ ahead_start m v typ st again g u l = record {
   good = l.good;
 }
 
-pub ahead_rest : {S U : Type 0} (m : Meaning S U) (v : Values S U) (typ : TypDef) (st : Standing) (again g : List Command) (part : List Dss) (u : U)
-    → IsAhead m v typ st again g 0 part u → IsLed m v typ st again u
-ahead_rest m v typ st again g part u a = record {
-  leads = subst (λ cs. Leads m v.shared st cs u) (append_nil again) (a.leads tt);
+pub ahead_rest : {S U : Type 0} (m : Meaning S U) (v : Values S U) (typ : TypDef) (st : Standing) (again g : List Command) (ran : ℕ) (part : List Dss) (u : U)
+    → ran ≡ 0 → IsAhead m v typ st again g ran part u → IsLed m v typ st again u
+ahead_rest m v typ st again g ran part u z a = record {
+  leads = subst (λ cs. Leads m v.shared st cs u) (ap (λ n. again ++ take n (numbered 1 g)) z ∙ append_nil again)
+      (a.leads (subst (λ n. AllByRecursion Set (take n (numbered 1 g))) (sym z) tt));
   good = a.good;
 }
 
@@ -376,3 +379,87 @@ ahead_run {S} {U} {m = m} {v = v} laws typ st again g ran part s u c cs at sh se
         (subst (AllByRecursion Set) (sym (append_assoc again ahead (c ∷ []))) (all_append Set again (ahead ++ c ∷ []) sets here))
         (subst (AllByRecursion IsCommand) (sym (append_assoc again ahead (c ∷ []))) (all_append IsCommand again (ahead ++ c ∷ []) are whole))
         (all_append Set again ahead sets front) (all_append IsCommand again ahead are some) (a.leads front)
+
+-- ---- the segment joins what runs again
+
+numbered_length : (k : ℕ) (g : List Command) → length (numbered k g) ≡ length g
+numbered_length k [] = refl
+numbered_length k (c ∷ g) = ap suc (numbered_length (k + 1) g)
+
+numbered_sets : (k : ℕ) (g : List Command) → AllByRecursion Set g → AllByRecursion Set (numbered k g)
+numbered_sets k [] sets = tt
+numbered_sets k (c ∷ g) sets = (sets.0, numbered_sets (k + 1) g sets.1)
+
+to_numbered : (k : ℕ) (g : List Command) → AreSame g (numbered k g)
+to_numbered k [] = tt
+to_numbered k (c ∷ g) = (record { code = refl; body = refl; objects = refl }, to_numbered (k + 1) g)
+
+from_numbered : (k : ℕ) (g : List Command) → AreSame (numbered k g) g
+from_numbered k [] = tt
+from_numbered k (c ∷ g) = (record { code = refl; body = refl; objects = refl }, from_numbered (k + 1) g)
+
+-- all of it ran, where it was answered so
+all_ran : (ran : ℕ) (g : List Command) (part : List Dss) → stops g part ≡ false → left_to_run g ran part ≡ [] → take ran (numbered 1 g) ≡ numbered 1 g
+all_ran ran g part goes none =
+    sym (append_nil (take ran (numbered 1 g)))
+    ∙ ap (λ xs. take ran (numbered 1 g) ++ xs) (sym (sym (cond-false (stops g part) [] (drop ran (numbered 1 g)) goes) ∙ none))
+    ∙ take-append-drop ran (numbered 1 g)
+
+pub joined : {S U : Type 0} {m : Meaning S U} {v : Values S U} → Laws m v → (typ : TypDef) (st : Standing) (again g : List Command) (ran : ℕ)
+    (part : List Dss) (u : U) → AllByRecursion Set again → AllByRecursion IsCommand again → AllByRecursion IsCommand g → AreUpTo ran part
+    → left_to_run g ran part ≡ [] → sets_only typ g (replies_of g part) ≡ true → without_error (replies_of g part) ≡ true
+    → IsAhead m v typ st again g ran part u → IsLed m v typ st (again ++ g) u
+joined {S} {U} {m = m} {v = v} laws typ st again g ran part u sets are all up none well calm a = record {
+  leads = λ t ts.
+      subst (λ xs. Leads m v.shared st (again ++ xs) u) ran_is (a.leads ran_sets) t ts
+      ∙ led_both m t (m.base st) again xs
+      ∙ ap (λ d. led m d (there t) xs) (stays t ts)
+      ∙ led_same laws g xs t (there t) ts (unit t ts) all (to_numbered 1 g)
+      ∙ sym (led_both m t (m.base st) again g ∙ ap (λ d. led m d (there t) g) (stays t ts));
+  good = λ t ts.
+      subst (AreGood typ) (sym (answers_both m t (m.base st) again g
+      ∙ ap (λ d. answers m t (m.base st) again ++ answers m d (there t) g) (stays t ts)))
+      (all_append (IsGood typ) (answers m t (m.base st) again) (answers m t (there t) g) (a.good t ts)
+      (subst (AreGood typ) (sym (answered_same laws xs g t (there t) ts (unit t ts) numbers (from_numbered 1 g)))
+      (good_renumbered typ g (answers m t (there t) xs) (goods t ts))));
+}
+  where
+    xs : List Command
+    xs = numbered 1 g
+
+    g_sets : AllByRecursion Set g
+    g_sets = sets_are typ g (replies_of g part) well
+
+    back : replies_of g part ≡ map (given_back g) part
+    back = sets_back ran g part g_sets up
+
+    no_error : list_any tells_error part ≡ false
+    no_error = no_errors g typ g part (ap (sets_only typ g) (sym back) ∙ well)
+        (ap (list_any tells_error) (sym back) ∙ not_true (list_any tells_error (replies_of g part)) calm)
+
+    ran_is : take ran xs ≡ xs
+    ran_is = all_ran ran g part (no_stop g part no_error) none
+
+    ran_sets : AllByRecursion Set (take ran xs)
+    ran_sets = subst (AllByRecursion Set) (sym ran_is) (numbered_sets 1 g g_sets)
+
+    numbers : AllByRecursion IsCommand xs
+    numbers = numbered_commands 1 g all
+
+    there : S → U
+    there t = led m t (m.base st) again
+
+    unit : (t : S) → v.shared t → v.unit (there t)
+    unit t ts = led_kept laws again t (m.base st) ts (laws.base_unit st) are
+
+    stays : (t : S) → v.shared t → data_led m t (m.base st) again ≡ t
+    stays t ts = sets_stay laws again t (m.base st) ts (laws.base_unit st) are sets
+
+    whole : (t : S) → v.shared t → part ≡ flat (answers m t (there t) xs)
+    whole t ts = a.replies ran_sets t ts ∙ ap (λ cs. flat (answers m t (there t) cs)) ran_is
+
+    goods : (t : S) → v.shared t → AreGood typ (answers m t (there t) xs)
+    goods t ts = are_good typ g g (answers m t (there t) xs) (answers_some laws xs t (there t) ts (unit t ts) numbers)
+        (sym (answers_length m t (there t) xs ∙ numbered_length 1 g))
+        (ap (λ ds. sets_only typ g (map (given_back g) ds)) (sym (whole t ts)) ∙ ap (sets_only typ g) (sym back) ∙ well)
+        (ap (list_any tells_error) (sym (whole t ts)) ∙ no_error)

@@ -35,7 +35,7 @@ abbrev pub AtRest : {S U : Type 0} → Values S U → Standing → U → Type 0
 AtRest v st u = (st.stage ≢ New) → v.stands st u
 
 pub record IsAt {S U : Type 0} (m : Meaning S U) (v : Values S U) (k : Core) (ran : ℕ) (part asking : List Dss) (u : U) : Type 0 where
-  pub idle : k.segments ≡ [] → ran ≡ 0
+  pub idle : first k.segments ≡ [] → ran ≡ 0
   pub asked_up : AreUpTo ran asking
   pub rest : ran ≡ 0 → AtRest v k.standing u
   pub work : is_work (first k.segments) ≡ true → k.standing.stage ≡ Accessed → Worked m v k.standing (first k.segments) part asking u
@@ -94,7 +94,7 @@ pub at_run : {S U : Type 0} {m : Meaning S U} {v : Values S U} → Laws m v → 
     → IsAt m v k ran part asking u
     → IsAt m v k (suc ran) (part ++ m.replies s u (unasked c)) (asking ++ m.replies s u (asked c)) (m.unit_after s u (unasked c))
 at_run {m = m} laws fit name k s u sh un ran part asking c cs seg front is e up a = record {
-  idle = λ none. absurd (cons_nil (sym e ∙ ap (λ gs. drop ran (numbered 1 (first gs))) none ∙ drop_nothing ran 1));
+  idle = λ none. absurd (cons_nil (sym e ∙ ap (λ h. drop ran (numbered 1 h)) none ∙ drop_nothing ran 1));
   asked_up = one_more ran asking (m.replies s u (asked c)) a.asked_up (asked_replies_number laws s u sh un ran c is (next_number ran 1 g c cs e));
   rest = λ z. absurd (omega (arith, z));
   work = λ w at. worked_run laws fit k.standing s u sh un at g ran part asking c cs seg w is e up a.asked_up (a.work w at);
@@ -123,7 +123,7 @@ work_standing st (c ∷ g) r work =
         go false e = e
 
 -- nothing ran where nothing is left to run: there was nothing
-nothing_ran : (g : List Command) (part : List Dss) → AreUpTo 0 part → left_to_run g 0 part ≡ [] → g ≡ []
+pub nothing_ran : (g : List Command) (part : List Dss) → AreUpTo 0 part → left_to_run g 0 part ≡ [] → g ≡ []
 nothing_ran [] part up none = refl
 nothing_ran (c ∷ g) part up none = absurd (cons_nil (ap (λ p. left_to_run (c ∷ g) 0 p) (sym (nothing_up part up)) ∙ none))
 

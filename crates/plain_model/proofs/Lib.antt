@@ -23,3 +23,5 @@ pub mod Moves
 pub mod Stands
 pub mod Landing
 pub mod Aheads
+pub mod Succeeding
+pub mod Going

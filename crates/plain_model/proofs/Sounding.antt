@@ -67,7 +67,7 @@ finished_front name s f = go s.core.segments
 
 -- ---- what runs again
 
-sets_are : (typ : TypDef) (cs : List Command) (replies : List Dss) → sets_only typ cs replies ≡ true → AllByRecursion Set cs
+pub sets_are : (typ : TypDef) (cs : List Command) (replies : List Dss) → sets_only typ cs replies ≡ true → AllByRecursion Set cs
 unfolding sets_only
 sets_are typ [] [] e = tt
 sets_are typ [] (d ∷ replies) e = tt
