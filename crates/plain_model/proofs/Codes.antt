@@ -151,13 +151,14 @@ kept_code code drops bytes small size = written_code (record { code = code; byte
   size = omega (arith, size, data_short bytes, none_short (length (data_of bytes)) drops (data_of bytes));
 })
 
-pub enduowrm_still : (d : Dss) → length d.body ≤ most_reply_body → is_object_of enduowrm (without_lists d) ≡ is_object_of enduowrm d
+pub enduowrm_still : (d : Dss) → (is_object_of enduowrm d ≡ true → length d.body ≤ most_reply_body)
+    → is_object_of enduowrm (without_lists d) ≡ is_object_of enduowrm d
 enduowrm_still d size =
     cond_both {A = Dss} (has_params enduowrm d) (record d { body = canonical_object enduowrm (kept_members is_list_or_release (data_of d.body)) })
     (if has_params accrdbrm d then record d { body = canonical_object accrdbrm (kept_members is_list (data_of d.body)) } else d)
     (λ w. is_object_of enduowrm w ≡ is_object_of enduowrm d)
-    (λ e. ap (λ n. n == enduowrm) (kept_code enduowrm is_list_or_release d.body (omega arith) size)
-    ∙ sym (and_true (is_object_of enduowrm d) (are_members (data_of d.body)) e).0)
+    (λ e. let is = (and_true (is_object_of enduowrm d) (are_members (data_of d.body)) e).0 in
+    ap (λ n. n == enduowrm) (kept_code enduowrm is_list_or_release d.body (omega arith) (size is)) ∙ sym is)
     (λ e. cond_both {A = Dss} (has_params accrdbrm d) (record d { body = canonical_object accrdbrm (kept_members is_list (data_of d.body)) }) d
     (λ w. is_object_of enduowrm w ≡ is_object_of enduowrm d)
     (λ f. is_not enduowrm accrdbrm (code_of (canonical_object accrdbrm (kept_members is_list (data_of d.body)))) refl refl

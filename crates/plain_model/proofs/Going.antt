@@ -30,7 +30,7 @@ use Rattle.plain_model.specs.Plain.{Session, State, Event, What, Begin, Sent, Ru
 use Rattle.plain_model.specs.Plain.{ArePossible, new_session, start, plain, put, segment_of, seen_of, left_to_run, to_run, with_after, run_first, run_late}
 use Rattle.plain_model.specs.Plain.{session_after, after_event}
 use Rattle.plain_model.specs.Repeats.{AreSame, renumbered_as}
-use Rattle.plain_model.specs.Succeeds.{RepliesFit, CanRepeat, Succeeds, EachRepeatSucceeds, all_replies}
+use Rattle.plain_model.specs.Succeeds.{EndsFit, CanRepeat, Succeeds, EachRepeatSucceeds, all_replies}
 use Rattle.plain_model.proofs.Puts.{put_same, put_other, put_holds}
 use Rattle.plain_model.proofs.Segments.{IsSegment, cons_nil, first_cut, numbered_segment, drop_segment}
 use Rattle.plain_model.proofs.Replies.{AreUpTo}
@@ -75,7 +75,7 @@ none_some e = cc
 
 -- ---- the next command runs
 
-run_going : {S U : Type 0} {m : Meaning S U} {v : Values S U} → Laws m v → RepliesFit m v → (name : List ℕ) (s : S) (q : Session U) (l : Account)
+run_going : {S U : Type 0} {m : Meaning S U} {v : Values S U} → Laws m v → EndsFit m v → (name : List ℕ) (s : S) (q : Session U) (l : Account)
     (cs : List Command) → v.shared s → Repeats name v q l → q.core.owed ≡ Nothing → left_to_run (segment_of q) q.ran q.part ≡ cs → IsGoing m v q
     → IsGoing m v (run_first m s q cs)
 run_going laws fit name s q l [] sh r owed e g = g
@@ -234,7 +234,7 @@ accept_going {m = m} {v = v} name q z g = λ end.
     let r = rests q z g in
     going q (accepted name q.core).core q.held (q.out ++ (accepted name q.core).said) (record { rest = r.rest; led = r.led })
 
-event_going : {S U : Type 0} {m : Meaning S U} {v : Values S U} → Laws m v → RepliesFit m v → (name : List ℕ) (s : S) (q : Session U) (l : Account)
+event_going : {S U : Type 0} {m : Meaning S U} {v : Values S U} → Laws m v → EndsFit m v → (name : List ℕ) (s : S) (q : Session U) (l : Account)
     (what : What) → v.shared s → Repeats name v q l → Goes m v q → IsPossible q what → Goes m v (session_after name m s q what)
 unfolding none_left closed left
 event_going laws fit name s q l (Begin reading) sh r goes may =
@@ -277,7 +277,7 @@ record Keeps {S U : Type 0} (name : List ℕ) (m : Meaning S U) (v : Values S U)
   pub repeats : Repeats name v q l
   pub goes : Goes m v q
 
-events_succeed : {S U : Type 0} {m : Meaning S U} {v : Values S U} → Laws m v → RepliesFit m v → (name : List ℕ) (es : List Event) (p : State S U)
+events_succeed : {S U : Type 0} {m : Meaning S U} {v : Values S U} → Laws m v → EndsFit m v → (name : List ℕ) (es : List Event) (p : State S U)
     (ls : ℕ → Account) → v.shared p.shared → ((i : ℕ) → Keeps name m v (p.session i) (ls i)) → ArePossible name m p es → (i : ℕ)
     → CanRepeat ((plain name m p es).session i).core → Succeeds m v.shared ((plain name m p es).session i)
 events_succeed laws fit name [] p ls sh all may i can = succeeds laws name (p.session i) (ls i) (all i).repeats (all i).goes can
@@ -306,7 +306,7 @@ start_going m v = λ end. record {
     new_accessed : New ≡ Accessed → ⊥
     new_accessed e = cc
 
-pub each_repeat_succeeds : {S U : Type 0} {m : Meaning S U} {v : Values S U} → Laws m v → RepliesFit m v → (name : List ℕ)
+pub each_repeat_succeeds : {S U : Type 0} {m : Meaning S U} {v : Values S U} → Laws m v → EndsFit m v → (name : List ℕ)
     → EachRepeatSucceeds name m v.shared
 each_repeat_succeeds {m = m} {v = v} laws fit name s sh es may i can =
     events_succeed laws fit name es (start m s) (λ k. new_account) sh

@@ -22,7 +22,7 @@ use Rattle.plain_model.specs.Local.{is_local}
 use Rattle.plain_model.specs.Core.{Core, first}
 use Rattle.plain_model.specs.Answered.{standing_after, is_work, register_fault}
 use Rattle.plain_model.specs.Plain.{left_to_run, seen}
-use Rattle.plain_model.specs.Succeeds.{RepliesFit}
+use Rattle.plain_model.specs.Succeeds.{EndsFit}
 use Rattle.plain_model.proofs.Segments.{IsSegment, IsRunning, drop_nothing, next_number, cons_nil, head_is}
 use Rattle.plain_model.proofs.Replies.{AreUpTo, one_more}
 use Rattle.plain_model.proofs.Runs.{left_is}
@@ -88,7 +88,7 @@ access_run laws name st s u sh (d ∷ []) (suc ran) part asking c cs seg work fr
 access_run laws name st s u sh (d ∷ f ∷ g) ran part asking c cs seg work front e up rest =
     absurd (true≢false (sym (ap (λ b. b || ends_unit (class_of d.code)) seg.run.0) ∙ work))
 
-pub at_run : {S U : Type 0} {m : Meaning S U} {v : Values S U} → Laws m v → RepliesFit m v → (name : List ℕ) (k : Core) (s : S) (u : U) → v.shared s
+pub at_run : {S U : Type 0} {m : Meaning S U} {v : Values S U} → Laws m v → EndsFit m v → (name : List ℕ) (k : Core) (s : S) (u : U) → v.shared s
     → v.unit u → (ran : ℕ) (part asking : List Dss) (c : Command) (cs : List Command) → IsSegment (first k.segments)
     → is_local name k.standing (first k.segments) ≡ false → IsCommand c → drop ran (numbered 1 (first k.segments)) ≡ c ∷ cs → AreUpTo ran part
     → IsAt m v k ran part asking u

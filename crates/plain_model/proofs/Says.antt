@@ -80,6 +80,9 @@ sets_are_in ran g c part r is number all =
 
 -- ---- whether the unit ended, without what was asked for
 
+abbrev pub FitsWhereItEnds : Dss → Type 0
+FitsWhereItEnds d = is_object_of enduowrm d ≡ true → FitsAReply d
+
 some_found : (p : Dss → Bool) (d : Dss) (r : List Dss) → is_some (find p (d ∷ r)) ≡ (p d || is_some (find p r))
 some_found p d r = go (p d)
   where
@@ -91,7 +94,7 @@ no_enduowrm : (number : ℕ) (d : Dss) → answers number sqlstt d ≡ true → 
 no_enduowrm number d e =
     ap (λ n. n == enduowrm) (eqb-true _ sqlstt (and_true (d.corr == number) (is_object_of sqlstt d) e).1)
 
-still_ends : (number : ℕ) (after : Bool) (r : List Dss) → AllByRecursion FitsAReply r
+still_ends : (number : ℕ) (after : Bool) (r : List Dss) → AllByRecursion FitsWhereItEnds r
     → ends (map (λ m. without_lists m.reply) (filter (λ m. not m.is_set) (marked_from number after r))) ≡ ends r
 still_ends number after [] fit = refl
 still_ends number after (d ∷ r) fit = go (still_ends number (after || answers number sqlcard d) r fit.1) (after && answers number sqlstt d) refl
@@ -110,7 +113,7 @@ still_ends number after (d ∷ r) fit = go (still_ends number (after || answers 
         ∙ sym (some_found (is_object_of enduowrm) d r)
 
 -- where the rest of the replies is the same, the unit ended in both cases or in none
-pub ends_alike : (c : Command) (r t : List Dss) → AllByRecursion FitsAReply r → AllByRecursion FitsAReply t → without_asked c r ≡ without_asked c t
+pub ends_alike : (c : Command) (r t : List Dss) → AllByRecursion FitsWhereItEnds r → AllByRecursion FitsWhereItEnds t → without_asked c r ≡ without_asked c t
     → ends r ≡ ends t
 ends_alike c r t fit fits e = sym (still_ends c.corr false r fit) ∙ ap ends e ∙ still_ends c.corr false t fits
 

@@ -33,7 +33,7 @@ use Rattle.plain_model.specs.Local.{Refuses, to_excsat, to_accsec, to_rdbnam, al
 use Rattle.plain_model.specs.Core.{Core, first}
 use Rattle.plain_model.specs.Answered.{standing_after, is_work}
 use Rattle.plain_model.specs.Plain.{left_to_run, seen}
-use Rattle.plain_model.specs.Succeeds.{RepliesFit}
+use Rattle.plain_model.specs.Succeeds.{EndsFit}
 use Rattle.plain_model.proofs.Segments.{IsSegment, IsCut, IsRunning, Closes, is_end, end_from, drop_nothing, next_number, not_end_next, cons_nil, head_is}
 use Rattle.plain_model.proofs.Replies.{HaveNumber, IsUpTo, AreUpTo, none_beyond, none_zero, no_replies, replies_both}
 use Rattle.plain_model.proofs.Runs.{without_code, without_number, and_true}
@@ -152,7 +152,7 @@ not_released : (d : Option Dss) (code value : ℕ) → is_some d ≡ false → e
 not_released None code value e = refl
 not_released (Some d) code value e = absurd (true≢false e)
 
-pub worked_run : {S U : Type 0} {m : Meaning S U} {v : Values S U} → Laws m v → RepliesFit m v → (st : Standing) (s : S) (u : U) → v.shared s → v.unit u
+pub worked_run : {S U : Type 0} {m : Meaning S U} {v : Values S U} → Laws m v → EndsFit m v → (st : Standing) (s : S) (u : U) → v.shared s → v.unit u
     → st.stage ≡ Accessed → (g : List Command) (ran : ℕ) (part asking : List Dss) (c : Command) (cs : List Command) → IsSegment g → is_work g ≡ true
     → IsCommand c → drop ran (numbered 1 g) ≡ c ∷ cs → AreUpTo ran part → AreUpTo ran asking → Worked m v st g part asking u
     → Worked m v st g (part ++ m.replies s u (unasked c)) (asking ++ m.replies s u (asked c)) (m.unit_after s u (unasked c))

@@ -2,11 +2,12 @@
 use Rattle.std.specs.Prelude.{◌≡◌, ℕ, true, false, List, None}
 use Rattle.std.specs.List.{flat_map, list_any, AllByRecursion}
 use Rattle.dss_frame.specs.declared.dss.Dss.{Dss}
+use Rattle.ddm_codepoints.specs.CodePoint.{enduowrm}
 use Rattle.access_handshake.specs.declared.stage.Stage.TheVariants.{Accessed}
 use Rattle.unit_segments.specs.declared.command.Command.{Command}
 use Rattle.unit_segments.specs.Accepts.{sets_only}
 use Rattle.unit_segments.specs.Release.{asked}
-use Rattle.unit_segments.specs.Strip.{FitsAReply}
+use Rattle.unit_segments.specs.Strip.{is_object_of, FitsAReply}
 use Rattle.plain_model.specs.UnitEnd.{unasked}
 use Rattle.plain_model.specs.Group.{Meaning, Values, IsCommand, AlwaysBoth, led, answers}
 use Rattle.plain_model.specs.Core.{Core}
@@ -14,9 +15,10 @@ use Rattle.plain_model.specs.Answered.{without_error}
 use Rattle.plain_model.specs.Plain.{Session, Event, start, plain, ArePossible}
 use Rattle.plain_model.specs.Repeats.{AreSame}
 
--- no reply of these is longer than one may be
-abbrev pub RepliesFit : {S U : Type 0} → Meaning S U → Values S U → Type 0
-RepliesFit m v = AlwaysBoth v (λ s u c. AllByRecursion FitsAReply (m.replies s u c))
+-- What is asked of a group besides its laws: no message that says how a unit of work ended is longer than a reply may be. One
+-- that is couldn't be read once it is written anew. DDM, volume 3, ENDUOWRM.
+abbrev pub EndsFit : {S U : Type 0} → Meaning S U → Values S U → Type 0
+EndsFit m v = AlwaysBoth v (λ s u c. AllByRecursion (λ d. is_object_of enduowrm d ≡ true → FitsAReply d) (m.replies s u c))
 
 -- the replies to all of these commands, one after another
 abbrev pub all_replies : {S U : Type 0} → Meaning S U → S → U → List Command → List Dss

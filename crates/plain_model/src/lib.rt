@@ -12,6 +12,6 @@ pub use cases::{
 };
 pub use group::Group;
 pub use laws::{
-    commits_are_counted, each_core_is_sound, each_unit_is_fair, loss_is_told,
+    commits_are_counted, each_core_is_sound, each_repeat_succeeds, each_unit_is_fair, loss_is_told,
     lost_units_can_run_again, repeats_need_no_data, segments_stay_in_work,
 };
