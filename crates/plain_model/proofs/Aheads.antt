@@ -1,7 +1,7 @@
 -- Commands that run again lead to the unit, and are answered well again.
-use Rattle.std.proofs.Common.{◌≡◌, ◌≢◌, ℕ, zero, suc, ◌+◌, ◌-◌, ◌≤◌, ◌<◌, ◌==◌, ◌&&◌, ◌||◌, Bool, true, false, not, if◌then◌else◌, List, [], ◌∷◌, ◌++◌}
+use Rattle.std.proofs.Common.{◌≡◌, ◌≢◌, ℕ, zero, suc, ◌+◌, ◌-◌, ◌≤◌, ◌==◌, ◌&&◌, ◌||◌, Bool, true, false, not, List, [], ◌∷◌, ◌++◌}
 use Rattle.std.proofs.Common.{length, take, drop, map, find, slice_get, option_and_then, Option, Some, None, ap, sym, refl, subst, ◌∙◌, arith, true≢false, eqb-true, eq-eqb}
-use Rattle.std.proofs.lemmas.Bool.{cond_both, cond-true, cond-false}
+use Rattle.std.proofs.lemmas.Bool.{cond-false}
 use Rattle.std.proofs.lemmas.List.{append_assoc, length-append, take-append-drop}
 use Rattle.std.specs.List.{AllByRecursion, flat_map, list_any}
 use Rattle.dss_frame.specs.declared.dss.Dss.{Dss}
@@ -18,12 +18,11 @@ use Rattle.unit_segments.specs.Strip.{is_object_of, end_number, end_number_from,
 use Rattle.unit_segments.specs.Accepts.{is_good_card, is_success, sets_only}
 use Rattle.plain_model.specs.Standing.{Standing}
 use Rattle.plain_model.specs.UnitEnd.{unasked}
-use Rattle.plain_model.specs.Group.{Meaning, Values, Laws, IsCommand, AreReplies, IsSame, Set, renumbered, led, answers, told_typdef, typdef_in}
+use Rattle.plain_model.specs.Group.{Meaning, Values, Laws, IsCommand, Set, renumbered, led, answers, told_typdef, typdef_in}
 use Rattle.plain_model.specs.Answered.{without_error}
 use Rattle.plain_model.specs.Plain.{left_to_run}
 use Rattle.plain_model.specs.Repeats.{AreSame, renumbered_as, data_led}
-use Rattle.plain_model.specs.Succeeds.{all_replies}
-use Rattle.plain_model.proofs.Segments.{is_end, cons_nil, numbered_commands, drop_nothing, head_is, tail_is}
+use Rattle.plain_model.proofs.Segments.{is_end, numbered_commands}
 use Rattle.plain_model.proofs.Replies.{AreUpTo, all_append}
 use Rattle.plain_model.proofs.Runs.{and_true}
 use Rattle.plain_model.proofs.Keeps.{led_kept}

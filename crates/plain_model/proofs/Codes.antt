@@ -1,17 +1,15 @@
 -- A reply that is written anew keeps its code point, and says what it said.
-use Rattle.std.proofs.Common.{◌≡◌, ◌≢◌, ◌⊎◌, inl, inr, ℕ, zero, suc, ◌+◌, ◌-◌, ◌≤◌, ◌<◌, ◌==◌, ◌&&◌, ◌||◌, Bool, true, false, not, if◌then◌else◌, List, []}
-use Rattle.std.proofs.Common.{◌∷◌, ◌++◌, length, take, drop, find, map, filter, is_some, nat_le, Option, Some, None, Result, Ok, Err, ap, sym, refl, subst, ◌∙◌, arith}
-use Rattle.std.proofs.Common.{true≢false, eqb, eqb-true, eq-eqb}
-use Rattle.std.proofs.lemmas.Bool.{cond_both, cond-true, cond-false}
+use Rattle.std.proofs.Common.{◌≡◌, ◌⊎◌, inl, inr, ℕ, zero, suc, ◌-◌, ◌≤◌, ◌<◌, ◌==◌, Bool, true, false, if◌then◌else◌, List, []}
+use Rattle.std.proofs.Common.{◌∷◌, length, take, nat_le, Result, Ok, Err, ap, sym, refl, subst, ◌∙◌, arith}
+use Rattle.std.proofs.Common.{true≢false, eqb-true}
+use Rattle.std.proofs.lemmas.Bool.{cond_both}
 use Rattle.std.proofs.lemmas.List.{length-append, length-take, length-drop}
-use Rattle.std.specs.List.{AllByRecursion}
 use Rattle.dss_frame.specs.declared.dss.Dss.{Dss}
 use Rattle.ddm_objects.specs.declared.fault.ObjFault.{ObjFault}
 use Rattle.ddm_objects.specs.declared.fault.ObjWhy.TheVariants.{Past}
-use Rattle.ddm_objects.specs.Objects.{Member, Found, HasCanonical, greatest_extended, greatest_short, short_object, long_object, canonical_object, fault_at, object_at, to_end, first_object, only_object}
-use Rattle.ddm_objects.specs.Objects.{outer_of}
+use Rattle.ddm_objects.specs.Objects.{Member, Found, greatest_short, short_object, long_object, canonical_object, fault_at, object_at, to_end, first_object, only_object}
 use Rattle.ddm_objects.proofs.Reading.Read.{object_found, found_size}
-use Rattle.ddm_codepoints.specs.CodePoint.{enduowrm, accrdbrm, secchkrm, sqlcard, sqlstt}
+use Rattle.ddm_codepoints.specs.CodePoint.{enduowrm, accrdbrm, secchkrm, sqlcard}
 use Rattle.unit_segments.specs.Limit.{most_reply_body}
 use Rattle.unit_segments.specs.Command.{code_by, code_of, data_by, data_of}
 use Rattle.unit_segments.specs.Release.{kept_by, kept_within, kept_members}

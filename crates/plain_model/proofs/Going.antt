@@ -1,27 +1,20 @@
 -- What runs again succeeds, whatever happens: over all events.
-use Rattle.std.proofs.Common.{◌≡◌, ◌≢◌, ℕ, zero, suc, ◌||◌, ◌==◌, Bool, true, false, not, if◌then◌else◌, List, [], ◌∷◌, ◌++◌, length, drop}
-use Rattle.std.proofs.Common.{Option, Some, None, ap, sym, refl, subst, ◌∙◌, arith, true≢false}
-use Rattle.std.proofs.lemmas.Bool.{cond_both, cond-true, cond-false}
-use Rattle.std.specs.List.{AllByRecursion, flat_map, list_any}
+use Rattle.std.proofs.Common.{◌≡◌, ◌≢◌, ℕ, ◌||◌, true, false, not, if◌then◌else◌, List, [], ◌∷◌, ◌++◌}
+use Rattle.std.proofs.Common.{Option, Some, None, ap, sym, refl, subst, ◌∙◌}
+use Rattle.std.proofs.lemmas.Bool.{cond_both}
+use Rattle.std.specs.List.{AllByRecursion, flat_map}
 use Rattle.dss_frame.specs.declared.dss.Dss.{Dss}
 use Rattle.ddm_codepoints.specs.CodeClass.{class_of}
-use Rattle.ddm_codepoints.specs.declared.code_class.CodeClass.TheVariants.{Pass}
-use Rattle.ddm_codepoints.specs.CodePoint.{excsqlset}
-use Rattle.access_handshake.specs.declared.stage.Stage.{Stage}
 use Rattle.access_handshake.specs.declared.stage.Stage.TheVariants.{New, Accessed}
 use Rattle.unit_segments.specs.declared.command.Command.{Command}
 use Rattle.unit_segments.specs.declared.registers.RegisterFault.{RegisterFault}
-use Rattle.unit_segments.specs.declared.stripped.Stripped.{Stripped}
 use Rattle.unit_segments.specs.Command.{ends_unit}
-use Rattle.unit_segments.specs.Release.{asked}
 use Rattle.unit_segments.specs.Segment.{segments_of}
 use Rattle.unit_segments.specs.Spelling.{numbered}
-use Rattle.unit_segments.specs.Strip.{has_ended, tells_error}
 use Rattle.unit_segments.specs.Accepts.{sets_only}
 use Rattle.plain_model.specs.Standing.{Standing, attached}
 use Rattle.plain_model.specs.UnitEnd.{unasked}
 use Rattle.plain_model.specs.Group.{Meaning, Values, Laws, IsCommand, Set, led, answers}
-use Rattle.plain_model.specs.Local.{is_local}
 use Rattle.plain_model.specs.Core.{Core, Owed, Nothing, Rerouted, Unknown, first, number_in, settled, finished, new_core}
 use Rattle.plain_model.specs.Begun.{Reading, Chain, Fault, TooLong, begun}
 use Rattle.plain_model.specs.Answered.{answered_core, answered_by, answered, register_fault, without_error}
@@ -30,10 +23,9 @@ use Rattle.plain_model.specs.Plain.{Session, State, Event, What, Begin, Sent, Ru
 use Rattle.plain_model.specs.Plain.{ArePossible, new_session, start, plain, put, segment_of, seen_of, left_to_run, to_run, with_after, run_first, run_late}
 use Rattle.plain_model.specs.Plain.{session_after, after_event}
 use Rattle.plain_model.specs.Repeats.{AreSame, renumbered_as}
-use Rattle.plain_model.specs.Succeeds.{EndsFit, CanRepeat, Succeeds, EachRepeatSucceeds, all_replies}
+use Rattle.plain_model.specs.Succeeds.{EndsFit, CanRepeat, Succeeds, EachRepeatSucceeds}
 use Rattle.plain_model.proofs.Puts.{put_same, put_other, put_holds}
 use Rattle.plain_model.proofs.Segments.{IsSegment, cons_nil, first_cut, numbered_segment, drop_segment}
-use Rattle.plain_model.proofs.Replies.{AreUpTo}
 use Rattle.plain_model.proofs.Runs.{left_is}
 use Rattle.plain_model.proofs.Accounts.{Account, new_account}
 use Rattle.plain_model.proofs.Keeps.{data_kept}
@@ -43,8 +35,8 @@ use Rattle.plain_model.proofs.Leading.{answered_same}
 use Rattle.plain_model.proofs.Repeating.{Repeats, Done, after, comes_same, start_repeats, lost_standing, ended_works, core_done, answered_stands}
 use Rattle.plain_model.proofs.Stands.{passed_is}
 use Rattle.plain_model.proofs.Landing.{AtRest, IsAt, at_start, at_run, at_answer}
-use Rattle.plain_model.proofs.Aheads.{Leads, AreGood, IsAhead, IsLed, ahead_start, ahead_rest, ahead_run, good_sets, good_renumbered, good_calm, answers_length}
-use Rattle.plain_model.proofs.Succeeding.{Calm, CalmLed, Rests, settled_rests, IsAnswerable, answered_led}
+use Rattle.plain_model.proofs.Aheads.{AreGood, IsAhead, ahead_start, ahead_rest, ahead_run, good_sets, good_renumbered, good_calm, answers_length}
+use Rattle.plain_model.proofs.Succeeding.{Calm, Rests, settled_rests, IsAnswerable, answered_led}
 
 -- ---- what a session keeps
 

@@ -1,20 +1,19 @@
 -- The unit of a conversation stands where its session does: what every session keeps that goes on.
-use Rattle.std.proofs.Common.{◌≡◌, ◌≢◌, ℕ, zero, suc, ◌+◌, ◌≤◌, ◌<◌, ◌==◌, ◌||◌, Bool, true, false, not, if◌then◌else◌, List, [], ◌∷◌, ◌++◌, drop}
-use Rattle.std.proofs.Common.{Option, Some, None, is_some, ap, sym, refl, subst, ◌∙◌, arith, true≢false, eqb-true}
-use Rattle.std.proofs.lemmas.Bool.{cond_both, cond-true, cond-false}
-use Rattle.std.specs.List.{AllByRecursion}
+use Rattle.std.proofs.Common.{◌≡◌, ◌≢◌, ℕ, zero, suc, ◌==◌, ◌||◌, Bool, true, false, if◌then◌else◌, List, [], ◌∷◌, ◌++◌, drop}
+use Rattle.std.proofs.Common.{None, ap, sym, refl, subst, ◌∙◌, arith, true≢false}
+use Rattle.std.proofs.lemmas.Bool.{cond-true, cond-false}
 use Rattle.dss_frame.specs.declared.dss.Dss.{Dss}
 use Rattle.ddm_codepoints.specs.CodeClass.{class_of}
 use Rattle.ddm_codepoints.specs.CodePoint.{secchk, accrdb}
 use Rattle.access_handshake.specs.declared.stage.Stage.{Stage}
-use Rattle.access_handshake.specs.declared.stage.Stage.TheVariants.{New, Attached, Chosen, Checked, Accessed}
+use Rattle.access_handshake.specs.declared.stage.Stage.TheVariants.{New, Chosen, Checked, Accessed}
 use Rattle.unit_segments.specs.declared.command.Command.{Command}
 use Rattle.unit_segments.specs.declared.stripped.Stripped.{Stripped}
 use Rattle.unit_segments.specs.Command.{ends_unit}
 use Rattle.unit_segments.specs.Release.{asked}
 use Rattle.unit_segments.specs.Segment.{goes_on_a_run}
 use Rattle.unit_segments.specs.Spelling.{numbered}
-use Rattle.unit_segments.specs.Strip.{stripped, has_ended, is_granted, sets_of, stops}
+use Rattle.unit_segments.specs.Strip.{stripped, has_ended, is_granted, sets_of}
 use Rattle.plain_model.specs.Standing.{Standing, log_with, after_end, after_secchk, after_accrdb}
 use Rattle.plain_model.specs.UnitEnd.{unasked}
 use Rattle.plain_model.specs.Group.{Meaning, Values, Laws, IsCommand}
@@ -23,9 +22,8 @@ use Rattle.plain_model.specs.Core.{Core, first}
 use Rattle.plain_model.specs.Answered.{standing_after, is_work, register_fault}
 use Rattle.plain_model.specs.Plain.{left_to_run, seen}
 use Rattle.plain_model.specs.Succeeds.{EndsFit}
-use Rattle.plain_model.proofs.Segments.{IsSegment, IsRunning, drop_nothing, next_number, cons_nil, head_is}
+use Rattle.plain_model.proofs.Segments.{IsSegment, drop_nothing, next_number, cons_nil, head_is}
 use Rattle.plain_model.proofs.Replies.{AreUpTo, one_more}
-use Rattle.plain_model.proofs.Runs.{left_is}
 use Rattle.plain_model.proofs.Staged.{isnt_work, work_accessed}
 use Rattle.plain_model.proofs.Stands.{Worked, worked_start, worked_run, Landed, Serves, Checks, Opens, Works, serves, secchk_run, accrdb_run}
 use Rattle.plain_model.proofs.Stands.{asked_replies_number}

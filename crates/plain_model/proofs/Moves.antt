@@ -1,5 +1,5 @@
 -- Where local answers lead a session: where they don't lead it to a base, it stands where it stood.
-use Rattle.std.proofs.Common.{◌≡◌, ◌==◌, ◌||◌, Bool, true, false, if◌then◌else◌, ℕ, List, [], ◌∷◌, Option, Some, None, ap, sym, refl, ◌∙◌, true≢false}
+use Rattle.std.proofs.Common.{◌≡◌, ◌||◌, Bool, true, false, if◌then◌else◌, ℕ, List, [], ◌∷◌, Option, Some, None, ap, sym, refl, ◌∙◌, true≢false}
 use Rattle.std.proofs.lemmas.Bool.{cond_both}
 use Rattle.dss_frame.specs.declared.dss.Kind.TheVariants.{Reply}
 use Rattle.access_handshake.specs.declared.stage.Stage.TheVariants.{Accessed}

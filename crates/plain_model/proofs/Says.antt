@@ -1,18 +1,18 @@
 -- What the replies to a segment say, as its application gets them, is what those to its commands say.
-use Rattle.std.proofs.Common.{◌≡◌, ◌≢◌, ℕ, suc, ◌+◌, ◌≤◌, ◌<◌, ◌==◌, ◌&&◌, ◌||◌, Bool, true, false, not, if◌then◌else◌, List, [], ◌∷◌, ◌++◌, length, drop}
-use Rattle.std.proofs.Common.{find, map, filter, is_some, Option, Some, None, ap, sym, refl, subst, ◌∙◌, arith, true≢false, eqb-true}
-use Rattle.std.proofs.lemmas.Bool.{cond_both, cond-true, cond-false}
-use Rattle.std.specs.List.{AllByRecursion, list_any}
+use Rattle.std.proofs.Common.{◌≡◌, ◌≢◌, ℕ, suc, ◌≤◌, ◌<◌, ◌==◌, ◌&&◌, ◌||◌, Bool, true, false, not, if◌then◌else◌, List, [], ◌∷◌, ◌++◌, length, drop}
+use Rattle.std.proofs.Common.{find, map, filter, is_some, Option, Some, ap, sym, refl, ◌∙◌, arith, eqb-true}
+use Rattle.std.proofs.lemmas.Bool.{cond-true, cond-false}
+use Rattle.std.specs.List.{AllByRecursion}
 use Rattle.dss_frame.specs.declared.dss.Dss.{Dss}
 use Rattle.ddm_codepoints.specs.CodePoint.{enduowrm, accrdbrm, secchkrm, sqlcard, sqlstt}
 use Rattle.unit_segments.specs.declared.command.Command.{Command}
 use Rattle.unit_segments.specs.Limit.{most_reply_body}
 use Rattle.unit_segments.specs.Command.{data_of}
 use Rattle.unit_segments.specs.Spelling.{numbered}
-use Rattle.unit_segments.specs.Strip.{is_object_of, end_number, replies_to, end_message, has_ended, is_granted, end_says, Marked, answers, marked_from, marked}
+use Rattle.unit_segments.specs.Strip.{is_object_of, end_number, replies_to, end_message, Marked, answers, marked_from}
 use Rattle.unit_segments.specs.Strip.{sets_of, without_lists, given_back, replies_of, FitsAReply}
 use Rattle.unit_segments.specs.Accepts.{is_admission, gives_admission, has_accrdbrm}
-use Rattle.plain_model.specs.UnitEnd.{end_of, ends, releases, sets_in, without_asked}
+use Rattle.plain_model.specs.UnitEnd.{end_of, ends, sets_in, without_asked}
 use Rattle.plain_model.proofs.Runs.{and_true}
 use Rattle.plain_model.proofs.Segments.{IsCut, is_end, ends_next}
 use Rattle.plain_model.proofs.Replies.{HaveNumber, AreUpTo, other_number, all_replies, none_beyond, replies_both}
@@ -104,7 +104,7 @@ still_ends number after (d ∷ r) fit = go (still_ends number (after || answers 
 
     go : ends rest ≡ ends r → (b : Bool) → (after && answers number sqlstt d) ≡ b
         → ends (map (λ m. without_lists m.reply) (filter (λ m. not m.is_set) (record { reply = d; is_set = b }
-            ∷ marked_from number (after || answers number sqlcard d) r))) ≡ ends (d ∷ r)
+        ∷ marked_from number (after || answers number sqlcard d) r))) ≡ ends (d ∷ r)
     go same true e =
         same ∙ sym (some_found (is_object_of enduowrm) d r ∙ ap (λ b. b || ends r) (no_enduowrm number d (and_true after (answers number sqlstt d) e).1))
     go same false e =

@@ -1,5 +1,5 @@
 -- Where the unit of a conversation stands, after each command of the segment in work.
-use Rattle.std.proofs.Common.{◌≡◌, ◌≢◌, ◌⊎◌, inl, inr, ℕ, zero, suc, ◌+◌, ◌≤◌, ◌<◌, ◌==◌, ◌||◌, Bool, true, false, not, if◌then◌else◌, List, [], ◌∷◌, ◌++◌, length, drop}
+use Rattle.std.proofs.Common.{◌≡◌, ◌≢◌, ◌⊎◌, inl, inr, ℕ, zero, suc, ◌+◌, ◌≤◌, ◌==◌, ◌||◌, Bool, true, false, not, if◌then◌else◌, List, [], ◌∷◌, ◌++◌, length, drop}
 use Rattle.std.proofs.Common.{map, find, Option, Some, None, is_some, is_none, ap, sym, refl, subst, ◌∙◌, arith, true≢false, eqb-true}
 use Rattle.std.proofs.lemmas.Bool.{cond_both, cond-true, cond-false}
 use Rattle.std.specs.List.{AllByRecursion}
@@ -17,27 +17,25 @@ use Rattle.access_handshake.specs.Rdbnam.{rdbnam_answer}
 use Rattle.reply_texts.specs.Reply.{cmdnsp_object, prccnv_object}
 use Rattle.access_handshake.specs.declared.stage.Stage.TheVariants.{New, Attached, Chosen, Checked, Accessed}
 use Rattle.unit_segments.specs.declared.command.Command.{Command}
-use Rattle.unit_segments.specs.declared.stripped.Stripped.{Stripped}
 use Rattle.unit_segments.specs.Command.{ends_unit, is_passed, data_of}
 use Rattle.unit_segments.specs.Limit.{most_reply_body}
 use Rattle.unit_segments.specs.Release.{asked, asked_body}
 use Rattle.unit_segments.specs.Segment.{goes_on_a_run}
 use Rattle.unit_segments.specs.Spelling.{numbered}
-use Rattle.unit_segments.specs.Strip.{stripped, stops, is_object_of, end_number, end_number_from, replies_to, has_ended, is_granted, end_says, sets_of, given_back}
+use Rattle.unit_segments.specs.Strip.{stripped, is_object_of, end_number, end_number_from, replies_to, has_ended, is_granted, end_says, sets_of, given_back}
 use Rattle.unit_segments.specs.Strip.{replies_of}
 use Rattle.unit_segments.specs.Accepts.{gives_admission, has_accrdbrm}
-use Rattle.plain_model.specs.Standing.{Standing, attached, checked, accessed, log_with, after_end, after_secchk, after_accrdb}
+use Rattle.plain_model.specs.Standing.{Standing, attached, checked, accessed, log_with, after_end}
 use Rattle.plain_model.specs.UnitEnd.{unasked, ends, releases, end_of, sets_in}
 use Rattle.plain_model.specs.Group.{Meaning, Values, Laws, IsCommand, IsReplyTo}
-use Rattle.plain_model.specs.Local.{Refuses, to_excsat, to_accsec, to_rdbnam, allowed_answer, local_answer, is_local}
-use Rattle.plain_model.specs.Core.{Core, first}
+use Rattle.plain_model.specs.Local.{Refuses, to_excsat, to_accsec, to_rdbnam, allowed_answer, local_answer}
 use Rattle.plain_model.specs.Answered.{standing_after, is_work}
-use Rattle.plain_model.specs.Plain.{left_to_run, seen}
+use Rattle.plain_model.specs.Plain.{seen}
 use Rattle.plain_model.specs.Succeeds.{EndsFit}
-use Rattle.plain_model.proofs.Segments.{IsSegment, IsCut, IsRunning, Closes, is_end, end_from, drop_nothing, next_number, not_end_next, cons_nil, head_is}
-use Rattle.plain_model.proofs.Replies.{HaveNumber, IsUpTo, AreUpTo, none_beyond, none_zero, no_replies, replies_both}
-use Rattle.plain_model.proofs.Runs.{without_code, without_number, and_true}
-use Rattle.plain_model.proofs.Staged.{isnt_work, is_allowed, next_only, next_either}
+use Rattle.plain_model.proofs.Segments.{IsSegment, IsCut, Closes, is_end, end_from, drop_nothing, next_number, not_end_next, cons_nil, head_is}
+use Rattle.plain_model.proofs.Replies.{HaveNumber, AreUpTo, none_beyond, none_zero, no_replies, replies_both}
+use Rattle.plain_model.proofs.Runs.{without_number}
+use Rattle.plain_model.proofs.Staged.{is_allowed, next_only, next_either}
 use Rattle.plain_model.proofs.Says.{AreOthers, append_nil, all_given_back, end_is, message_is, sets_are_in, ends_alike, admission_same, access_same}
 
 -- ---- commands without asking

@@ -1,38 +1,32 @@
 -- What runs again succeeds: what every session keeps that goes on.
-use Rattle.std.proofs.Common.{◌≡◌, ◌≢◌, ℕ, zero, suc, ◌&&◌, ◌||◌, ◌==◌, Bool, true, false, not, if◌then◌else◌, List, [], ◌∷◌, ◌++◌, drop, Option, Some, None}
+use Rattle.std.proofs.Common.{◌≡◌, ◌≢◌, ℕ, zero, suc, ◌&&◌, Bool, true, false, not, if◌then◌else◌, List, [], ◌∷◌, ◌++◌, None}
 use Rattle.std.proofs.Common.{ap, sym, refl, subst, ◌∙◌, arith, true≢false}
 use Rattle.std.proofs.lemmas.Bool.{cond_both, cond-true, cond-false}
 use Rattle.std.specs.List.{AllByRecursion}
 use Rattle.dss_frame.specs.declared.dss.Dss.{Dss}
 use Rattle.ddm_codepoints.specs.declared.typdef.TypDef.{TypDef}
-use Rattle.access_handshake.specs.declared.stage.Stage.{Stage}
-use Rattle.access_handshake.specs.declared.stage.Stage.TheVariants.{New, Attached, Chosen, Checked, Accessed}
+use Rattle.access_handshake.specs.declared.stage.Stage.TheVariants.{Chosen, Checked, Accessed}
 use Rattle.unit_segments.specs.declared.command.Command.{Command}
-use Rattle.unit_segments.specs.declared.registers.RegisterFault.{RegisterFault}
 use Rattle.unit_segments.specs.declared.stripped.Stripped.{Stripped}
-use Rattle.unit_segments.specs.Release.{asked}
-use Rattle.unit_segments.specs.Segment.{segments_of, goes_on_a_run}
-use Rattle.unit_segments.specs.Spelling.{numbered}
-use Rattle.unit_segments.specs.Strip.{stripped, has_ended, is_granted, sets_of, replies_of}
+use Rattle.unit_segments.specs.Segment.{goes_on_a_run}
+use Rattle.unit_segments.specs.Strip.{stripped, has_ended, sets_of, replies_of}
 use Rattle.unit_segments.specs.Accepts.{sets_only}
 use Rattle.plain_model.specs.Standing.{Standing, log_with, after_end}
-use Rattle.plain_model.specs.UnitEnd.{unasked}
-use Rattle.plain_model.specs.Group.{Meaning, Values, Laws, IsCommand, Set, led, answers, told_typdef}
+use Rattle.plain_model.specs.Group.{Meaning, Values, Laws, IsCommand, Set, told_typdef}
 use Rattle.plain_model.specs.Local.{is_local}
-use Rattle.plain_model.specs.Core.{Core, Owed, Nothing, Rerouted, Unknown, Settled, first, number_in, settled, finished, still}
+use Rattle.plain_model.specs.Core.{Core, first, settled, finished}
 use Rattle.plain_model.specs.Answered.{fit, without_error, joins_again, standing_after, is_work, with_work, with_end, unit_after, answered_core}
 use Rattle.plain_model.specs.Answered.{register_fault}
 use Rattle.plain_model.specs.Plain.{left_to_run, seen}
-use Rattle.plain_model.specs.Repeats.{IsDoneAt}
 use Rattle.plain_model.proofs.Segments.{IsSegment}
 use Rattle.plain_model.proofs.Replies.{AreUpTo}
 use Rattle.plain_model.proofs.Runs.{and_true}
-use Rattle.plain_model.proofs.Cores.{IsSameUnit, settled_finished, after_unit}
+use Rattle.plain_model.proofs.Cores.{IsSameUnit, settled_finished}
 use Rattle.plain_model.proofs.Repeating.{Done, some_again}
 use Rattle.plain_model.proofs.Moves.{unmoved, accessed_unmoved}
 use Rattle.plain_model.proofs.Stands.{Serves, Checks, Opens, Works, serves}
-use Rattle.plain_model.proofs.Landing.{AtRest, IsAt, work_standing, nothing_up, nothing_ran, at_answer}
-use Rattle.plain_model.proofs.Aheads.{Leads, AreGood, IsAhead, IsLed, ahead_rest, joined, typdef_stays}
+use Rattle.plain_model.proofs.Landing.{AtRest, IsAt, work_standing, nothing_up, nothing_ran}
+use Rattle.plain_model.proofs.Aheads.{IsAhead, IsLed, ahead_rest, joined, typdef_stays}
 
 -- what holds of a session whose unit is neither spoken nor pinned, and whose database was accessed
 abbrev pub Calm : Core → Type 0 → Type 0

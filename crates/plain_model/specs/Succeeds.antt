@@ -1,15 +1,13 @@
 -- What runs again after a loss succeeds. No standard speaks of it: it is this project's own.
 use Rattle.std.specs.Prelude.{◌≡◌, ℕ, true, false, List, None}
-use Rattle.std.specs.List.{flat_map, list_any, AllByRecursion}
+use Rattle.std.specs.List.{flat_map, AllByRecursion}
 use Rattle.dss_frame.specs.declared.dss.Dss.{Dss}
 use Rattle.ddm_codepoints.specs.CodePoint.{enduowrm}
 use Rattle.access_handshake.specs.declared.stage.Stage.TheVariants.{Accessed}
 use Rattle.unit_segments.specs.declared.command.Command.{Command}
 use Rattle.unit_segments.specs.Accepts.{sets_only}
-use Rattle.unit_segments.specs.Release.{asked}
 use Rattle.unit_segments.specs.Strip.{is_object_of, FitsAReply}
-use Rattle.plain_model.specs.UnitEnd.{unasked}
-use Rattle.plain_model.specs.Group.{Meaning, Values, IsCommand, AlwaysBoth, led, answers}
+use Rattle.plain_model.specs.Group.{Meaning, Values, AlwaysBoth, led, answers}
 use Rattle.plain_model.specs.Core.{Core}
 use Rattle.plain_model.specs.Answered.{without_error}
 use Rattle.plain_model.specs.Plain.{Session, Event, start, plain, ArePossible}
