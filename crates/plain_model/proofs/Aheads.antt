@@ -1,6 +1,7 @@
 -- Commands that run again lead to the unit, and are answered well again.
 use Rattle.std.proofs.Common.{◌≡◌, ◌≢◌, ℕ, zero, suc, ◌+◌, ◌-◌, ◌≤◌, ◌==◌, ◌&&◌, ◌||◌, Bool, true, false, not, List, [], ◌∷◌, ◌++◌}
-use Rattle.std.proofs.Common.{length, take, drop, map, find, slice_get, option_and_then, Option, Some, None, ap, sym, refl, subst, ◌∙◌, arith, true≢false, eqb-true, eq-eqb}
+use Rattle.std.proofs.Common.{length, take, drop, map, find, slice_get, option_and_then, Option, Some, None, ap, sym, refl, subst, ◌∙◌, arith, true≢false}
+use Rattle.std.proofs.Common.{eqb-true, eq-eqb}
 use Rattle.std.proofs.lemmas.Bool.{cond-false}
 use Rattle.std.proofs.lemmas.List.{append_assoc, length-append, take-append-drop}
 use Rattle.std.specs.List.{AllByRecursion, flat_map, list_any}
@@ -373,7 +374,7 @@ ahead_run {S} {U} {m = m} {v = v} laws typ st again g ran part s u c cs at sh se
     next : AllByRecursion Set (ahead ++ c ∷ []) → Further m v.shared st (again ++ ahead) c s u
     next here =
         let front = all_front Set ahead (c ∷ []) here in
-        let whole : AllByRecursion IsCommand (ahead ++ c ∷ []) = subst (AllByRecursion IsCommand) next_is (all_take IsCommand (suc ran) (numbered 1 g) numbers) in
+        let whole = subst (AllByRecursion IsCommand) next_is (all_take IsCommand (suc ran) (numbered 1 g) numbers) in
         further laws st (again ++ ahead) c s u at sh
         (subst (AllByRecursion Set) (sym (append_assoc again ahead (c ∷ []))) (all_append Set again (ahead ++ c ∷ []) sets here))
         (subst (AllByRecursion IsCommand) (sym (append_assoc again ahead (c ∷ []))) (all_append IsCommand again (ahead ++ c ∷ []) are whole))

@@ -7,7 +7,8 @@ use Rattle.std.proofs.lemmas.List.{length-append, length-take, length-drop}
 use Rattle.dss_frame.specs.declared.dss.Dss.{Dss}
 use Rattle.ddm_objects.specs.declared.fault.ObjFault.{ObjFault}
 use Rattle.ddm_objects.specs.declared.fault.ObjWhy.TheVariants.{Past}
-use Rattle.ddm_objects.specs.Objects.{Member, Found, greatest_short, short_object, long_object, canonical_object, fault_at, object_at, to_end, first_object, only_object}
+use Rattle.ddm_objects.specs.Objects.{Member, Found, greatest_short, short_object, long_object, canonical_object, fault_at, object_at, to_end}
+use Rattle.ddm_objects.specs.Objects.{first_object, only_object}
 use Rattle.ddm_objects.proofs.Reading.Read.{object_found, found_size}
 use Rattle.ddm_codepoints.specs.CodePoint.{enduowrm, accrdbrm, secchkrm, sqlcard}
 use Rattle.unit_segments.specs.Limit.{most_reply_body}
@@ -46,19 +47,21 @@ first_code bytes f e = either _ (to_end bytes) (object_at 0 bytes) f (λ x. x.ob
 code_is : (bytes : List ℕ) → (code_of bytes ≡ (to_end bytes).object.code) ⊎ (code_of bytes ≡ 0)
 code_is bytes = front_code (length bytes) ((to_end bytes).object.code) (first_object bytes) (first_code bytes)
 
-enduowrm_front : (data' : List ℕ) → (to_end (canonical_object enduowrm data')).object.code ≡ enduowrm
-enduowrm_front data' = cond_both (nat_le (length data') greatest_short) (short_object enduowrm data') (long_object enduowrm data') (λ bytes. (to_end bytes).object.code ≡ enduowrm) (λ e. refl) (λ e. refl)
+enduowrm_front : (params : List ℕ) → (to_end (canonical_object enduowrm params)).object.code ≡ enduowrm
+enduowrm_front params = cond_both (nat_le (length params) greatest_short) (short_object enduowrm params) (long_object enduowrm params)
+    (λ bytes. (to_end bytes).object.code ≡ enduowrm) (λ e. refl) (λ e. refl)
 
-accrdbrm_front : (data' : List ℕ) → (to_end (canonical_object accrdbrm data')).object.code ≡ accrdbrm
-accrdbrm_front data' = cond_both (nat_le (length data') greatest_short) (short_object accrdbrm data') (long_object accrdbrm data') (λ bytes. (to_end bytes).object.code ≡ accrdbrm) (λ e. refl) (λ e. refl)
+accrdbrm_front : (params : List ℕ) → (to_end (canonical_object accrdbrm params)).object.code ≡ accrdbrm
+accrdbrm_front params = cond_both (nat_le (length params) greatest_short) (short_object accrdbrm params) (long_object accrdbrm params)
+    (λ bytes. (to_end bytes).object.code ≡ accrdbrm) (λ e. refl) (λ e. refl)
 
-enduowrm_or : (data' : List ℕ) → (code_of (canonical_object enduowrm data') ≡ enduowrm) ⊎ (code_of (canonical_object enduowrm data') ≡ 0)
-enduowrm_or data' = subst (λ n. (code_of (canonical_object enduowrm data') ≡ n) ⊎ (code_of (canonical_object enduowrm data') ≡ 0))
-    (enduowrm_front data') (code_is (canonical_object enduowrm data'))
+enduowrm_or : (params : List ℕ) → (code_of (canonical_object enduowrm params) ≡ enduowrm) ⊎ (code_of (canonical_object enduowrm params) ≡ 0)
+enduowrm_or params = subst (λ n. (code_of (canonical_object enduowrm params) ≡ n) ⊎ (code_of (canonical_object enduowrm params) ≡ 0))
+    (enduowrm_front params) (code_is (canonical_object enduowrm params))
 
-accrdbrm_or : (data' : List ℕ) → (code_of (canonical_object accrdbrm data') ≡ accrdbrm) ⊎ (code_of (canonical_object accrdbrm data') ≡ 0)
-accrdbrm_or data' = subst (λ n. (code_of (canonical_object accrdbrm data') ≡ n) ⊎ (code_of (canonical_object accrdbrm data') ≡ 0))
-    (accrdbrm_front data') (code_is (canonical_object accrdbrm data'))
+accrdbrm_or : (params : List ℕ) → (code_of (canonical_object accrdbrm params) ≡ accrdbrm) ⊎ (code_of (canonical_object accrdbrm params) ≡ 0)
+accrdbrm_or params = subst (λ n. (code_of (canonical_object accrdbrm params) ≡ n) ⊎ (code_of (canonical_object accrdbrm params) ≡ 0))
+    (accrdbrm_front params) (code_is (canonical_object accrdbrm params))
 
 -- ---- another message than the two that are written anew
 

@@ -39,7 +39,17 @@ itself k = record { unit = refl; owed = refl; sent = refl; end = refl; pinned = 
 
 -- a core with other segments, replies and standing
 with_left : (answer : Locally) (left : List (List Command)) (k : Core) → (AreSegments k.segments → AreSegments left) → IsSameUnit k (with_local answer left k)
-with_left answer left k h = record { unit = refl; owed = refl; sent = refl; end = refl; pinned = refl; spoken = refl; again = refl; typdef = refl; segments = h }
+with_left answer left k h = record {
+  unit = refl;
+  owed = refl;
+  sent = refl;
+  end = refl;
+  pinned = refl;
+  spoken = refl;
+  again = refl;
+  typdef = refl;
+  segments = h;
+}
 
 pub follows : (a b c : Core) → IsSameUnit a b → IsSameUnit b c → IsSameUnit a c
 follows a b c x y = record {

@@ -147,12 +147,12 @@ at_answer {m = m} {v = v} laws name k ran part asking u front up none fault a = 
         sound = sym (cond-true (has_ended g part) (log_with k.standing (sets_of g asking)).fault None e) ∙ fault
 
         granted : (b : Bool) → is_granted g asking ≡ b → AtRest v (after_end k.standing r.sets) u
-        granted true f = λ new. subst (v.stands (after_end k.standing r.sets)) (sym ((a.work w at).released e f sound)) (laws.at_base (after_end k.standing r.sets))
+        granted true f = λ new.
+            subst (v.stands (after_end k.standing r.sets)) (sym ((a.work w at).released e f sound)) (laws.at_base (after_end k.standing r.sets))
         granted false f = λ new. (a.work w at).held e f sound
 
     by : (b : Bool) → is_work g ≡ b → AtRest v (standing_after k.standing g r) u
-    by true w = subst (λ to. AtRest v to u) (sym (work_standing k.standing g r w
-        ∙ ap (λ (b : Bool). if b then after_end k.standing r.sets else k.standing) refl))
+    by true w = subst (λ to. AtRest v to u) (sym (work_standing k.standing g r w))
         (ended (has_ended g part) refl w (work_accessed name k.standing g front w))
     by false w = count ran refl
       where

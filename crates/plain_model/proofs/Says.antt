@@ -10,9 +10,10 @@ use Rattle.unit_segments.specs.Limit.{most_reply_body}
 use Rattle.unit_segments.specs.Command.{data_of}
 use Rattle.unit_segments.specs.Spelling.{numbered}
 use Rattle.unit_segments.specs.Strip.{is_object_of, end_number, replies_to, end_message, Marked, answers, marked_from}
-use Rattle.unit_segments.specs.Strip.{sets_of, without_lists, given_back, replies_of, FitsAReply}
+use Rattle.unit_segments.specs.Strip.{sets_of, without_lists, given_back, replies_of}
 use Rattle.unit_segments.specs.Accepts.{is_admission, gives_admission, has_accrdbrm}
 use Rattle.plain_model.specs.UnitEnd.{end_of, ends, sets_in, without_asked}
+use Rattle.plain_model.specs.Succeeds.{EndFits}
 use Rattle.plain_model.proofs.Runs.{and_true}
 use Rattle.plain_model.proofs.Segments.{IsCut, is_end, ends_next}
 use Rattle.plain_model.proofs.Replies.{HaveNumber, AreUpTo, other_number, all_replies, none_beyond, replies_both}
@@ -80,9 +81,6 @@ sets_are_in ran g c part r is number all =
 
 -- ---- whether the unit ended, without what was asked for
 
-abbrev pub FitsWhereItEnds : Dss → Type 0
-FitsWhereItEnds d = is_object_of enduowrm d ≡ true → FitsAReply d
-
 some_found : (p : Dss → Bool) (d : Dss) (r : List Dss) → is_some (find p (d ∷ r)) ≡ (p d || is_some (find p r))
 some_found p d r = go (p d)
   where
@@ -94,7 +92,7 @@ no_enduowrm : (number : ℕ) (d : Dss) → answers number sqlstt d ≡ true → 
 no_enduowrm number d e =
     ap (λ n. n == enduowrm) (eqb-true _ sqlstt (and_true (d.corr == number) (is_object_of sqlstt d) e).1)
 
-still_ends : (number : ℕ) (after : Bool) (r : List Dss) → AllByRecursion FitsWhereItEnds r
+still_ends : (number : ℕ) (after : Bool) (r : List Dss) → AllByRecursion EndFits r
     → ends (map (λ m. without_lists m.reply) (filter (λ m. not m.is_set) (marked_from number after r))) ≡ ends r
 still_ends number after [] fit = refl
 still_ends number after (d ∷ r) fit = go (still_ends number (after || answers number sqlcard d) r fit.1) (after && answers number sqlstt d) refl
@@ -113,7 +111,7 @@ still_ends number after (d ∷ r) fit = go (still_ends number (after || answers 
         ∙ sym (some_found (is_object_of enduowrm) d r)
 
 -- where the rest of the replies is the same, the unit ended in both cases or in none
-pub ends_alike : (c : Command) (r t : List Dss) → AllByRecursion FitsWhereItEnds r → AllByRecursion FitsWhereItEnds t → without_asked c r ≡ without_asked c t
+pub ends_alike : (c : Command) (r t : List Dss) → AllByRecursion EndFits r → AllByRecursion EndFits t → without_asked c r ≡ without_asked c t
     → ends r ≡ ends t
 ends_alike c r t fit fits e = sym (still_ends c.corr false r fit) ∙ ap ends e ∙ still_ends c.corr false t fits
 
@@ -126,7 +124,8 @@ admission_same g (d ∷ r) = go (admission_same g r) (is_object_of secchkrm d) r
     found : List Dss → Option Dss
     found ds = find (is_object_of secchkrm) ds
 
-    go : gives_admission (map (given_back g) r) ≡ gives_admission r → (b : Bool) → is_object_of secchkrm d ≡ b → gives_admission (map (given_back g) (d ∷ r)) ≡ gives_admission (d ∷ r)
+    go : gives_admission (map (given_back g) r) ≡ gives_admission r → (b : Bool) → is_object_of secchkrm d ≡ b
+        → gives_admission (map (given_back g) (d ∷ r)) ≡ gives_admission (d ∷ r)
     go same true e =
         let now = (secchkrm_kept d).still ∙ e in
         ap is_admission (cond-true (is_object_of secchkrm (without_lists d)) (Some (given_back g d)) (found (map (given_back g) r)) now)

@@ -138,7 +138,12 @@ drop_segment (suc n) [] s = s
 drop_segment (suc n) (c ∷ g) s = drop_segment n g (segment_tail c g s)
 
 pub numbered_segment : (k : ℕ) (g : List Command) → IsSegment g → IsSegment (numbered k g)
-numbered_segment k g s = record { cut = numbered_cut k g s.cut; run = numbered_running k g s.run; goes = numbered_behind k g s.goes; commands = numbered_commands k g s.commands }
+numbered_segment k g s = record {
+  cut = numbered_cut k g s.cut;
+  run = numbered_running k g s.run;
+  goes = numbered_behind k g s.goes;
+  commands = numbered_commands k g s.commands;
+}
 
 pub cons_nil : {A : Type 0} {x : A} {xs : List A} → x ∷ xs ≡ [] → ⊥
 cons_nil e = cc

@@ -17,7 +17,8 @@ use Rattle.plain_model.specs.Local.{Locally, is_local, answered_locally}
 use Rattle.plain_model.specs.Core.{Core, Owed, Nothing, Rerouted, Unknown, Settled, first, number_in, still, moved_too, with_local, settle_by}
 use Rattle.plain_model.specs.Core.{settle_segments, settle_owed, settled, finish_by, finished, new_core}
 use Rattle.plain_model.specs.Begun.{Reading, Chain, Fault, TooLong, begun}
-use Rattle.plain_model.specs.Answered.{fit, without_error, joins_again, with_work, with_end, is_work, unit_after, answered_core, answered_by, register_fault, answered}
+use Rattle.plain_model.specs.Answered.{fit, without_error, joins_again, with_work, with_end, is_work, unit_after, answered_core, answered_by}
+use Rattle.plain_model.specs.Answered.{register_fault, answered}
 use Rattle.plain_model.specs.Lost.{commit_sent, owes, lost_owing, lost, accepted, none_left, closed, left}
 use Rattle.plain_model.specs.Plain.{Session, State, Event, What, Begin, Sent, Run, Answer, Lose, RunLate, Accept, NoneLeft, Close, Leave, IsPossible}
 use Rattle.plain_model.specs.Plain.{ArePossible, seen_of, to_run, run_first, run_late, session_after, after_event, start, plain}

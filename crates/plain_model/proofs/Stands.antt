@@ -1,5 +1,6 @@
 -- Where the unit of a conversation stands, after each command of the segment in work.
-use Rattle.std.proofs.Common.{◌≡◌, ◌≢◌, ◌⊎◌, inl, inr, ℕ, zero, suc, ◌+◌, ◌≤◌, ◌==◌, ◌||◌, Bool, true, false, not, if◌then◌else◌, List, [], ◌∷◌, ◌++◌, length, drop}
+use Rattle.std.proofs.Common.{◌≡◌, ◌≢◌, ◌⊎◌, inl, inr, ℕ, zero, suc, ◌+◌, ◌≤◌, ◌==◌, ◌||◌, Bool, true, false, not, if◌then◌else◌, List, [], ◌∷◌, ◌++◌}
+use Rattle.std.proofs.Common.{length, drop}
 use Rattle.std.proofs.Common.{map, find, Option, Some, None, is_some, is_none, ap, sym, refl, subst, ◌∙◌, arith, true≢false, eqb-true}
 use Rattle.std.proofs.lemmas.Bool.{cond_both, cond-true, cond-false}
 use Rattle.std.specs.List.{AllByRecursion}
@@ -75,13 +76,17 @@ end_ahead zero k (d ∷ g) c cs cut e ne = go (is_end d) refl
   where
     go : (b : Bool) → is_end d ≡ b → k + 0 ≤ end_number_from k (d ∷ g)
     go true f = subst (λ n. k + 0 ≤ n) (sym (cond-true (is_end d) k (end_number_from (k + 1) g) f)) (omega arith)
-    go false f = let is = cond-false (is_end d) k (end_number_from (k + 1) g) f in subst (λ n. k + 0 ≤ n) (sym is) (omega (arith, behind (k + 1) g (λ z. ne (is ∙ z))))
+    go false f =
+        let is = cond-false (is_end d) k (end_number_from (k + 1) g) f in
+        subst (λ n. k + 0 ≤ n) (sym is) (omega (arith, behind (k + 1) g (λ z. ne (is ∙ z))))
 end_ahead (suc ran) k (d ∷ g) c cs cut e ne = go (end_ahead ran (k + 1) g c cs cut.1 e) (is_end d) refl
   where
     go : (end_number_from (k + 1) g ≢ 0 → (k + 1) + ran ≤ end_number_from (k + 1) g) → (b : Bool) → is_end d ≡ b
         → k + suc ran ≤ end_number_from k (d ∷ g)
     go ahead true f = absurd (cons_nil (sym e ∙ ap (λ h. drop ran (numbered (k + 1) h)) (subst (λ b. Closes b g) f cut.0) ∙ drop_nothing ran (k + 1)))
-    go ahead false f = let is = cond-false (is_end d) k (end_number_from (k + 1) g) f in subst (λ n. k + suc ran ≤ n) (sym is) (omega (arith, ahead (λ z. ne (is ∙ z))))
+    go ahead false f =
+        let is = cond-false (is_end d) k (end_number_from (k + 1) g) f in
+        subst (λ n. k + suc ran ≤ n) (sym is) (omega (arith, ahead (λ z. ne (is ∙ z))))
 
 -- nothing of the end is said then
 unsaid : (ran : ℕ) (g : List Command) (c : Command) (cs : List Command) (part : List Dss) → IsCut g → drop ran (numbered 1 g) ≡ c ∷ cs

@@ -13,10 +13,13 @@ use Rattle.plain_model.specs.Answered.{without_error}
 use Rattle.plain_model.specs.Plain.{Session, Event, start, plain, ArePossible}
 use Rattle.plain_model.specs.Repeats.{AreSame}
 
--- What is asked of a group besides its laws: no message that says how a unit of work ended is longer than a reply may be. One
--- that is couldn't be read once it is written anew. DDM, volume 3, ENDUOWRM.
+-- a message that says how a unit of work ended is no longer than a reply may be: DDM, volume 3, ENDUOWRM
+abbrev pub EndFits : Dss → Type 0
+EndFits d = is_object_of enduowrm d ≡ true → FitsAReply d
+
+-- What is asked of a group besides its laws. A longer message couldn't be read any more once it is written anew.
 abbrev pub EndsFit : {S U : Type 0} → Meaning S U → Values S U → Type 0
-EndsFit m v = AlwaysBoth v (λ s u c. AllByRecursion (λ d. is_object_of enduowrm d ≡ true → FitsAReply d) (m.replies s u c))
+EndsFit m v = AlwaysBoth v (λ s u c. AllByRecursion EndFits (m.replies s u c))
 
 -- the replies to all of these commands, one after another
 abbrev pub all_replies : {S U : Type 0} → Meaning S U → S → U → List Command → List Dss

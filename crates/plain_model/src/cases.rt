@@ -7,7 +7,8 @@ ghost use Rattle.plain_model.specs.Plain.{Begin, Sent, Run, Answer, Lose, RunLat
 ghost use Rattle.plain_model.specs.Told.{Committed, RolledBack, ToldRerouted, ToldUnknown};
 ghost use Rattle.plain_model.specs.Example.{access, begins, one_command, runs, insert, set, open_cursor, commit, roll_back};
 ghost use Rattle.plain_model.specs.Example.{greeting, welcome, done, unit_ended, rerouted, unknown, ended, ended_unknown, no_access_left};
-ghost use Rattle.plain_model.specs.Example.{Comes, unknown_first, excsat_second, cmdnsp_reply, excsat_reply, prccnv_reply, sets_done, set_at_sample, done_twice};
+ghost use Rattle.plain_model.specs.Example.{Comes, unknown_first, excsat_second, cmdnsp_reply, excsat_reply, prccnv_reply, sets_done};
+ghost use Rattle.plain_model.specs.Example.{set_at_sample, done_twice};
 
 /// Units that end as they are asked to.
 pub fn units_that_end()

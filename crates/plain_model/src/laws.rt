@@ -53,5 +53,6 @@ pub fn repeats_need_no_data<G: Group>(_group: &G)
 /// what runs again after a loss succeeds. Of the group this asks that a message that says how a unit ended is no longer than a
 /// reply may be.
 pub fn each_repeat_succeeds<G: Group>(_group: &G)
-    ensures { (name : List ℕ) → EndsFit G.meaning (record { shared = G.is_shared; unit = G.is_unit; stands = G.stands }) → EachRepeatSucceeds name G.meaning G.is_shared }
+    ensures { (name : List ℕ) → EndsFit G.meaning (record { shared = G.is_shared; unit = G.is_unit; stands = G.stands })
+        → EachRepeatSucceeds name G.meaning G.is_shared }
 {}
