@@ -31,14 +31,25 @@ pub record IsSameUnit (k j : Core) : Type 0 where
   pub pinned : j.pinned ≡ k.pinned
   pub spoken : j.spoken ≡ k.spoken
   pub again : j.again ≡ k.again
+  pub typdef : j.typdef ≡ k.typdef
   pub segments : AreSegments k.segments → AreSegments j.segments
 
 pub itself : (k : Core) → IsSameUnit k k
-itself k = record { unit = refl; owed = refl; sent = refl; end = refl; pinned = refl; spoken = refl; again = refl; segments = λ all. all }
+itself k = record { unit = refl; owed = refl; sent = refl; end = refl; pinned = refl; spoken = refl; again = refl; typdef = refl; segments = λ all. all }
 
 -- a core with other segments, replies and standing
 with_left : (answer : Locally) (left : List (List Command)) (k : Core) → (AreSegments k.segments → AreSegments left) → IsSameUnit k (with_local answer left k)
-with_left answer left k h = record { unit = refl; owed = refl; sent = refl; end = refl; pinned = refl; spoken = refl; again = refl; segments = h }
+with_left answer left k h = record {
+  unit = refl;
+  owed = refl;
+  sent = refl;
+  end = refl;
+  pinned = refl;
+  spoken = refl;
+  again = refl;
+  typdef = refl;
+  segments = h;
+}
 
 pub follows : (a b c : Core) → IsSameUnit a b → IsSameUnit b c → IsSameUnit a c
 follows a b c x y = record {
@@ -49,6 +60,7 @@ follows a b c x y = record {
   pinned = y.pinned ∙ x.pinned;
   spoken = y.spoken ∙ x.spoken;
   again = y.again ∙ x.again;
+  typdef = y.typdef ∙ x.typdef;
   segments = λ all. y.segments (x.segments all);
 }
 
@@ -79,7 +91,7 @@ pub is_finished : (s : Settled) → IsSameUnit s.core (finished s).core
 is_finished s = go s.core.segments
   where
     go : (gs : List (List Command)) → IsSameUnit s.core (finish_by gs s.moved s.core).core
-    go [] = record { unit = refl; owed = refl; sent = refl; end = refl; pinned = refl; spoken = refl; again = refl; segments = λ all. all }
+    go [] = record { unit = refl; owed = refl; sent = refl; end = refl; pinned = refl; spoken = refl; again = refl; typdef = refl; segments = λ all. all }
     go (g ∷ gs) = itself s.core
 
 pub settled_finished : (name : List ℕ) (k : Core) → IsSameUnit k (finished (settled name k)).core

@@ -42,7 +42,7 @@ data_kept laws s q l NoneLeft sh are f = sh
 data_kept laws s q l (Close which) sh are f = sh
 data_kept laws s q l (Leave failed) sh are f = sh
 
-led_kept : {S U : Type 0} {m : Meaning S U} {v : Values S U} → Laws m v → (cs : List Command) (s : S) (u : U) → v.shared s → v.unit u
+pub led_kept : {S U : Type 0} {m : Meaning S U} {v : Values S U} → Laws m v → (cs : List Command) (s : S) (u : U) → v.shared s → v.unit u
     → AllByRecursion IsCommand cs → v.unit (led m s u cs)
 led_kept laws [] s u sh un all = un
 led_kept {m = m} laws (c ∷ cs) s u sh un all =

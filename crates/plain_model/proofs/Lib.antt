@@ -17,3 +17,11 @@ pub mod Sounding
 pub mod Staged
 pub mod Leading
 pub mod Repeating
+pub mod Codes
+pub mod Says
+pub mod Moves
+pub mod Stands
+pub mod Landing
+pub mod Aheads
+pub mod Succeeding
+pub mod Going

@@ -62,7 +62,7 @@ owed_stands name Nothing k at = settled_stands name k.segments k at
 owed_stands name Rerouted k at = refl
 owed_stands name Unknown k at = refl
 
-finished_stands : (s : Settled) → (finished s).core.standing ≡ s.core.standing
+pub finished_stands : (s : Settled) → (finished s).core.standing ≡ s.core.standing
 finished_stands s = go s.core.segments
   where
     go : (gs : List (List Command)) → (finish_by gs s.moved s.core).core.standing ≡ s.core.standing
@@ -78,7 +78,7 @@ all_done : (stage : Stage) (k : Core) → stage ≡ Accessed → IsDoneAt stage 
 all_done stage k at = record { again = λ ne. at; spoken = λ e. at; pinned = λ e. at; owed = λ ne. at }
 
 -- what holds of one core holds of another in which the same was done, where a session with access still has it
-same_done : (stage to : Stage) (k j : Core) → j.again ≡ k.again → j.spoken ≡ k.spoken → j.pinned ≡ k.pinned → j.owed ≡ k.owed
+pub same_done : (stage to : Stage) (k j : Core) → j.again ≡ k.again → j.spoken ≡ k.spoken → j.pinned ≡ k.pinned → j.owed ≡ k.owed
     → (stage ≡ Accessed → to ≡ Accessed) → IsDoneAt stage k → IsDoneAt to j
 same_done stage to k j ea es ep eo stays d = record {
   again = λ ne. stays (d.again (λ e. ne (ea ∙ e)));
@@ -125,11 +125,16 @@ unit_done to r k ends works stays d =
     (λ f. all_done to (with_work r k) (works f))
     (λ f. same_done k.standing.stage to k k refl refl refl refl stays d))
 
-answer_done : (name : List ℕ) (r : Stripped) (k : Core) → (r.ended ≡ true → is_work (first k.segments) ≡ true)
-    → is_local name k.standing (first k.segments) ≡ false → IsDoneAt k.standing.stage k
-    → IsDoneAt (answered name r k).core.standing.stage (answered name r k).core
-unfolding answered
-answer_done name r k ends front d = go (register_fault r k)
+-- where the session stands then, before local answers are given
+pub answered_stands : (r : Stripped) (k : Core) → (answered_core r k).standing ≡ standing_after k.standing (first k.segments) r
+answered_stands r k = ap (λ (st : Standing). standing_after st (first (unit_after r k).segments) r) (after_unit r k).standing
+    ∙ ap (λ gs. standing_after k.standing (first gs) r) (after_unit r k).segments
+
+pub core_done : (name : List ℕ) (r : Stripped) (k : Core) → (r.ended ≡ true → is_work (first k.segments) ≡ true)
+    → is_local name k.standing (first k.segments) ≡ false → IsDoneAt k.standing.stage k → IsDoneAt (answered_core r k).standing.stage (answered_core r k)
+core_done name r k ends front d =
+    same_done to.stage (answered_core r k).standing.stage (unit_after r k) (answered_core r k) refl refl refl refl
+    (λ at. ap (λ (st : Standing). st.stage) (answered_stands r k) ∙ at) u
   where
     to : Standing
     to = standing_after k.standing (first k.segments) r
@@ -140,13 +145,14 @@ answer_done name r k ends front d = go (register_fault r k)
     u : IsDoneAt to.stage (unit_after r k)
     u = unit_done to.stage r k ends (λ work. stays (work_accessed name k.standing (first k.segments) front work)) stays d
 
-    same : (answered_core r k).standing ≡ to
-    same = ap (λ (st : Standing). standing_after st (first (unit_after r k).segments) r) (after_unit r k).standing
-        ∙ ap (λ gs. standing_after k.standing (first gs) r) (after_unit r k).segments
-
+answer_done : (name : List ℕ) (r : Stripped) (k : Core) → (r.ended ≡ true → is_work (first k.segments) ≡ true)
+    → is_local name k.standing (first k.segments) ≡ false → IsDoneAt k.standing.stage k
+    → IsDoneAt (answered name r k).core.standing.stage (answered name r k).core
+unfolding answered
+answer_done name r k ends front d = go (register_fault r k)
+  where
     j : IsDoneAt (answered_core r k).standing.stage (answered_core r k)
-    j = same_done to.stage (answered_core r k).standing.stage (unit_after r k) (answered_core r k) refl refl refl refl
-        (λ at. ap (λ (st : Standing). st.stage) same ∙ at) u
+    j = core_done name r k ends front d
 
     go : (fault : Option RegisterFault)
         → IsDoneAt (answered_by name (number_in (first k.segments)) fault (answered_core r k)).core.standing.stage
@@ -156,7 +162,7 @@ answer_done name r k ends front d = go (register_fault r k)
 
 -- ---- the conversation is lost
 
-abbrev Done : Core → Type 0
+abbrev pub Done : Core → Type 0
 Done k = IsDoneAt k.standing.stage k
 
 calm_done : (k : Core) → Done k → Done (record k { sent = false })
@@ -178,14 +184,14 @@ lost_owing_done name Nothing k eo s works d = cond_both {A = Core} (commit_sent 
 lost_owing_done name Rerouted k eo s works d = calm_done k d
 lost_owing_done name Unknown k eo s works d = calm_done k d
 
-lost_done : (name : List ℕ) (k : Core) → IsSound name k
+pub lost_done : (name : List ℕ) (k : Core) → IsSound name k
     → (has_commit (first k.segments) ≡ true → is_work (first k.segments) ≡ true) → Done k → Done (lost k)
 unfolding lost
 lost_done name k s works d = lost_owing_done name k.owed k refl s works d
 
 -- ---- one event
 
-ended_works : {U : Type 0} (q : Session U) (l : Account) → Fact q l → (seen_of q).ended ≡ true → is_work (segment_of q) ≡ true
+pub ended_works : {U : Type 0} (q : Session U) (l : Account) → Fact q l → (seen_of q).ended ≡ true → is_work (segment_of q) ≡ true
 ended_works q l f e = end_works 1 (segment_of q) (first_cut q.core.segments f.works.cut).run (λ none. true≢false (sym ended ∙ nothing none))
   where
     ended : has_ended (segment_of q) q.part ≡ true
@@ -221,12 +227,12 @@ event_done name m s q l (Leave failed) f sound d may = record { again = d.again;
 
 -- ---- what a session keeps comes to the same
 
-record Repeats {S U : Type 0} (name : List ℕ) (v : Values S U) (q : Session U) (l : Account) : Type 0 where
+pub record Repeats {S U : Type 0} (name : List ℕ) (v : Values S U) (q : Session U) (l : Account) : Type 0 where
   pub holds : Holds v q l
   pub sound : IsSound name q.core
   pub done : Done q.core
 
-some_again : (stage : Stage) (k : Core) (c : Command) (cs : List Command) → IsDoneAt stage k → k.again ≡ c ∷ cs → stage ≡ Accessed
+pub some_again : (stage : Stage) (k : Core) (c : Command) (cs : List Command) → IsDoneAt stage k → k.again ≡ c ∷ cs → stage ≡ Accessed
 some_again stage k c cs d e = d.again (λ none. cons_nil (sym e ∙ none))
   where
     cons_nil : {x : Command} {xs : List Command} → x ∷ xs ≡ [] → ⊥
@@ -246,7 +252,7 @@ is_same {S} {U} {m = m} laws name k s t ss st all sound d = go k.again refl
         let both = laws.sets_alone k.standing k.again s t (some_again k.standing.stage k c cs d e) sound.sets all ss st in
         record { unit = both.0; replies = both.1 }
 
-lost_standing : (o : Owed) (k : Core) → (lost_owing o k).standing ≡ k.standing
+pub lost_standing : (o : Owed) (k : Core) → (lost_owing o k).standing ≡ k.standing
 lost_standing Nothing k = cond_both {A = Core} (commit_sent k) (owes Unknown k)
     (if k.spoken || k.pinned then owes Rerouted k else record k { sent = false }) (λ j. j.standing ≡ k.standing)
     (λ e. refl) (λ e. cond_both {A = Core} (k.spoken || k.pinned) (owes Rerouted k) (record k { sent = false }) (λ j. j.standing ≡ k.standing)
@@ -254,7 +260,7 @@ lost_standing Nothing k = cond_both {A = Core} (commit_sent k) (owes Unknown k)
 lost_standing Rerouted k = refl
 lost_standing Unknown k = refl
 
-after : {S U : Type 0} {m : Meaning S U} {v : Values S U} → Laws m v → (name : List ℕ) (s : S) (q : Session U) (l : Account) (what : What)
+pub after : {S U : Type 0} {m : Meaning S U} {v : Values S U} → Laws m v → (name : List ℕ) (s : S) (q : Session U) (l : Account) (what : What)
     → v.shared s → IsPossible q what → Repeats name v q l → Repeats name v (session_after name m s q what) (account_after m s q what l)
 after {m = m} laws name s q l what sh may r = record {
   holds = record {
@@ -265,7 +271,7 @@ after {m = m} laws name s q l what sh may r = record {
   done = event_done name m s q l what r.holds.fact r.sound r.done may;
 }
 
-comes_same : {S U : Type 0} {m : Meaning S U} {v : Values S U} → Laws m v → (name : List ℕ) (q : Session U) (l : Account) → Repeats name v q l
+pub comes_same : {S U : Type 0} {m : Meaning S U} {v : Values S U} → Laws m v → (name : List ℕ) (q : Session U) (l : Account) → Repeats name v q l
     → NeedsNoData m v.shared q
 unfolding lost
 comes_same {m = m} laws name q l r = record {
@@ -300,7 +306,7 @@ events_same {U = U} {m = m} {v = v} laws name (e ∷ es) p ls sh all may i =
     (λ k ne. subst (λ a. Repeats name v (p.session k) a) (sym (put_other ls e.session l2 k ne)) (all k)) j)
     may.1 i
 
-start_repeats : {S U : Type 0} {m : Meaning S U} {v : Values S U} → Laws m v → (name : List ℕ) → Repeats name v (new_session m) new_account
+pub start_repeats : {S U : Type 0} {m : Meaning S U} {v : Values S U} → Laws m v → (name : List ℕ) → Repeats name v (new_session m) new_account
 start_repeats laws name = record {
   holds = start_holds laws;
   sound = start_sound name;

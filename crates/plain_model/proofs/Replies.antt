@@ -40,20 +40,20 @@ one_more count part r all more = all_append (IsUpTo (suc count)) part r
 same_number : (a b : ℕ) → a ≡ b → (a == b) ≡ true
 same_number a b e = eq-eqb a b e
 
-other_number : (a b : ℕ) → a ≢ b → (a == b) ≡ false
+pub other_number : (a b : ℕ) → a ≢ b → (a == b) ≡ false
 other_number a b ne = go (eqb a b) refl
   where
     go : (v : Bool) → eqb a b ≡ v → (a == b) ≡ false
     go true e = absurd (ne (eqb-true a b e))
     go false e = e
 
-all_replies : (number : ℕ) (r : List Dss) → HaveNumber number r → replies_to number r ≡ r
+pub all_replies : (number : ℕ) (r : List Dss) → HaveNumber number r → replies_to number r ≡ r
 all_replies number [] all = refl
 all_replies number (d ∷ r) all =
     cond-true (d.corr == number) (d ∷ replies_to number r) (replies_to number r) (same_number d.corr number all.0)
     ∙ ap (λ xs. d ∷ xs) (all_replies number r all.1)
 
-no_replies : (number : ℕ) (r : List Dss) → AllByRecursion (λ d. d.corr ≢ number) r → replies_to number r ≡ []
+pub no_replies : (number : ℕ) (r : List Dss) → AllByRecursion (λ d. d.corr ≢ number) r → replies_to number r ≡ []
 no_replies number [] all = refl
 no_replies number (d ∷ r) all =
     cond-false (d.corr == number) (d ∷ replies_to number r) (replies_to number r) (other_number d.corr number all.0) ∙ no_replies number r all.1

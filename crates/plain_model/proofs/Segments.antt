@@ -42,13 +42,15 @@ running_tail c (d ∷ cs) run = run.1
 pub record IsSegment (g : List Command) : Type 0 where
   pub cut : IsCut g
   pub run : IsRunning g
+  -- behind the first each goes on a run
+  pub goes : AllByRecursion (λ c. goes_on_a_run c ≡ true) (drop 1 g)
   pub commands : AllByRecursion IsCommand g
 
 abbrev pub AreSegments : List (List Command) → Type 0
 AreSegments gs = AllByRecursion IsSegment gs
 
 pub alone : (c : Command) → IsCommand c → IsSegment (c ∷ [])
-alone c i = record { cut = (closes (is_end c), tt); run = tt; commands = (i, tt) }
+alone c i = record { cut = (closes (is_end c), tt); run = tt; goes = tt; commands = (i, tt) }
   where
     closes : (b : Bool) → Closes b []
     closes true = refl
@@ -70,6 +72,7 @@ before_cut c ((d ∷ g) ∷ gs) e i all = cond_both (goes_on_a_run d) ((c ∷ d 
       record {
         cut = (subst (λ b. Closes b (d ∷ g)) (sym (passed_goes_on (class_of c.code) e)) tt, all.0.cut);
         run = (e, all.0.run);
+        goes = (f, all.0.goes);
         commands = (i, all.0.commands);
       },
       all.1,
@@ -84,7 +87,7 @@ segments_cut (c ∷ cs) all = cond_both (is_passed (class_of c.code)) (passed_be
     (λ e. (alone c all.0, segments_cut cs all.1))
 
 pub nothing_cut : IsSegment []
-nothing_cut = record { cut = tt; run = tt; commands = tt }
+nothing_cut = record { cut = tt; run = tt; goes = tt; commands = tt }
 
 pub first_cut : (gs : List (List Command)) → AreSegments gs → IsSegment (first gs)
 first_cut [] all = nothing_cut
@@ -113,8 +116,21 @@ numbered_running k [] run = tt
 numbered_running k (c ∷ []) run = tt
 numbered_running k (c ∷ d ∷ g) run = (run.0, numbered_running (k + 1) (d ∷ g) run.1)
 
+numbered_goes : (k : ℕ) (g : List Command) → AllByRecursion (λ c. goes_on_a_run c ≡ true) g → AllByRecursion (λ c. goes_on_a_run c ≡ true) (numbered k g)
+numbered_goes k [] all = tt
+numbered_goes k (c ∷ g) all = (all.0, numbered_goes (k + 1) g all.1)
+
+numbered_behind : (k : ℕ) (g : List Command) → AllByRecursion (λ c. goes_on_a_run c ≡ true) (drop 1 g)
+    → AllByRecursion (λ c. goes_on_a_run c ≡ true) (drop 1 (numbered k g))
+numbered_behind k [] all = tt
+numbered_behind k (c ∷ g) all = numbered_goes (k + 1) g all
+
+goes_tail : (g : List Command) → AllByRecursion (λ c. goes_on_a_run c ≡ true) g → AllByRecursion (λ c. goes_on_a_run c ≡ true) (drop 1 g)
+goes_tail [] all = tt
+goes_tail (c ∷ g) all = all.1
+
 pub segment_tail : (c : Command) (g : List Command) → IsSegment (c ∷ g) → IsSegment g
-segment_tail c g s = record { cut = s.cut.1; run = running_tail c g s.run; commands = s.commands.1 }
+segment_tail c g s = record { cut = s.cut.1; run = running_tail c g s.run; goes = goes_tail g s.goes; commands = s.commands.1 }
 
 pub drop_segment : (n : ℕ) (g : List Command) → IsSegment g → IsSegment (drop n g)
 drop_segment zero g s = s
@@ -122,18 +138,23 @@ drop_segment (suc n) [] s = s
 drop_segment (suc n) (c ∷ g) s = drop_segment n g (segment_tail c g s)
 
 pub numbered_segment : (k : ℕ) (g : List Command) → IsSegment g → IsSegment (numbered k g)
-numbered_segment k g s = record { cut = numbered_cut k g s.cut; run = numbered_running k g s.run; commands = numbered_commands k g s.commands }
+numbered_segment k g s = record {
+  cut = numbered_cut k g s.cut;
+  run = numbered_running k g s.run;
+  goes = numbered_behind k g s.goes;
+  commands = numbered_commands k g s.commands;
+}
 
-cons_nil : {A : Type 0} {x : A} {xs : List A} → x ∷ xs ≡ [] → ⊥
+pub cons_nil : {A : Type 0} {x : A} {xs : List A} → x ∷ xs ≡ [] → ⊥
 cons_nil e = cc
 
-head_is : {A : Type 0} {x y : A} {xs ys : List A} → x ∷ xs ≡ y ∷ ys → x ≡ y
+pub head_is : {A : Type 0} {x y : A} {xs ys : List A} → x ∷ xs ≡ y ∷ ys → x ≡ y
 head_is e = cc
 
-tail_is : {A : Type 0} {x y : A} {xs ys : List A} → x ∷ xs ≡ y ∷ ys → xs ≡ ys
+pub tail_is : {A : Type 0} {x y : A} {xs ys : List A} → x ∷ xs ≡ y ∷ ys → xs ≡ ys
 tail_is e = cc
 
-drop_nothing : (n k : ℕ) → drop n (numbered k []) ≡ []
+pub drop_nothing : (n k : ℕ) → drop n (numbered k []) ≡ []
 drop_nothing zero k = refl
 drop_nothing (suc n) k = refl
 
@@ -145,7 +166,7 @@ next_number (suc ran) k (d ∷ g) c cs e = next_number ran (k + 1) g c cs e ∙ 
 
 -- ---- the number of the command that ends the unit
 
-end_from : (k : ℕ) (g : List Command) → (end_number_from k g ≡ 0) ⊎ (k ≤ end_number_from k g)
+pub end_from : (k : ℕ) (g : List Command) → (end_number_from k g ≡ 0) ⊎ (k ≤ end_number_from k g)
 end_from k [] = inl refl
 end_from k (c ∷ g) = cond_both (is_end c) k (end_number_from (k + 1) g) (λ n. (n ≡ 0) ⊎ (k ≤ n)) (λ e. inr (omega arith)) (λ e. further (end_from (k + 1) g))
   where

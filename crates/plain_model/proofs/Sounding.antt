@@ -17,7 +17,8 @@ use Rattle.plain_model.specs.Local.{Locally, is_local, answered_locally}
 use Rattle.plain_model.specs.Core.{Core, Owed, Nothing, Rerouted, Unknown, Settled, first, number_in, still, moved_too, with_local, settle_by}
 use Rattle.plain_model.specs.Core.{settle_segments, settle_owed, settled, finish_by, finished, new_core}
 use Rattle.plain_model.specs.Begun.{Reading, Chain, Fault, TooLong, begun}
-use Rattle.plain_model.specs.Answered.{fit, joins_again, with_work, with_end, is_work, unit_after, answered_core, answered_by, register_fault, answered}
+use Rattle.plain_model.specs.Answered.{fit, without_error, joins_again, with_work, with_end, is_work, unit_after, answered_core, answered_by}
+use Rattle.plain_model.specs.Answered.{register_fault, answered}
 use Rattle.plain_model.specs.Lost.{commit_sent, owes, lost_owing, lost, accepted, none_left, closed, left}
 use Rattle.plain_model.specs.Plain.{Session, State, Event, What, Begin, Sent, Run, Answer, Lose, RunLate, Accept, NoneLeft, Close, Leave, IsPossible}
 use Rattle.plain_model.specs.Plain.{ArePossible, seen_of, to_run, run_first, run_late, session_after, after_event, start, plain}
@@ -67,7 +68,7 @@ finished_front name s f = go s.core.segments
 
 -- ---- what runs again
 
-sets_are : (typ : TypDef) (cs : List Command) (replies : List Dss) → sets_only typ cs replies ≡ true → AllByRecursion Set cs
+pub sets_are : (typ : TypDef) (cs : List Command) (replies : List Dss) → sets_only typ cs replies ≡ true → AllByRecursion Set cs
 unfolding sets_only
 sets_are typ [] [] e = tt
 sets_are typ [] (d ∷ replies) e = tt
@@ -91,7 +92,9 @@ nothing_again k e = record { sets = subst (AllByRecursion Set) (sym e) tt; fits 
 
 work_again : (r : Stripped) (k : Core) → RunsAgain k → RunsAgain (with_work r k)
 work_again r k a = cond_both {A = Core} (joins_again r.replies k) (record k { again = k.again ++ first k.segments }) (record k { spoken = true }) RunsAgain
-    (λ e. let both = and_true (sets_only k.typdef (first k.segments) r.replies) (not k.spoken && fit (k.again ++ first k.segments)) e in record {
+    (λ e. let well = and_true (without_error r.replies)
+    (sets_only k.typdef (first k.segments) r.replies && (not k.spoken && fit (k.again ++ first k.segments))) e in
+    let both = and_true (sets_only k.typdef (first k.segments) r.replies) (not k.spoken && fit (k.again ++ first k.segments)) well.1 in record {
       sets = all_append Set k.again (first k.segments) a.sets (sets_are k.typdef (first k.segments) r.replies both.0);
       fits = (and_true (not k.spoken) (fit (k.again ++ first k.segments)) both.1).1;
     })

@@ -55,15 +55,15 @@ commit_works (c ∷ d ∷ g) run e = or_left (is_passed (class_of c.code)) (is_e
 -- ---- what a server answers
 
 -- a command with such a code point isn't one of a unit
-isnt_work : (c : Command) (code : ℕ) → (c.code == code) ≡ true → (is_passed (class_of code) || ends_unit (class_of code)) ≡ false
+pub isnt_work : (c : Command) (code : ℕ) → (c.code == code) ≡ true → (is_passed (class_of code) || ends_unit (class_of code)) ≡ false
     → goes_on_a_run c ≡ true → ⊥
 isnt_work c code e f work = true≢false (sym work ∙ ap (λ n. is_passed (class_of n) || ends_unit (class_of n)) (eqb-true c.code code e) ∙ f)
 
-next_only : (b : Bool) (st : Stage) → is_none (if b then Some st else None) ≡ false → b ≡ true
+pub next_only : (b : Bool) (st : Stage) → is_none (if b then Some st else None) ≡ false → b ≡ true
 next_only true st e = refl
 next_only false st e = absurd (true≢false e)
 
-next_either : (a b : Bool) (st to : Stage) → is_none (if a then Some st else (if b then Some to else None)) ≡ false → a ≡ false → b ≡ true
+pub next_either : (a b : Bool) (st to : Stage) → is_none (if a then Some st else (if b then Some to else None)) ≡ false → a ≡ false → b ≡ true
 next_either true b st to e f = absurd (true≢false f)
 next_either false b st to e f = next_only b to e
 

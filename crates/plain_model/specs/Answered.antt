@@ -2,6 +2,7 @@
 -- again without a word, and how much of it, is this project's own.
 use Rattle.std.specs.Prelude.{ℕ, suc, Bool, true, false, not, ◌==◌, ◌&&◌, nat_le, if◌then◌else◌, List, [], ◌∷◌, ◌++◌, length}
 use Rattle.std.specs.Prelude.{Option, Some, None}
+use Rattle.std.specs.List.{list_any}
 use Rattle.dss_frame.specs.declared.dss.Dss.{Dss}
 use Rattle.ddm_codepoints.specs.CodePoint.{secchk, accrdb}
 use Rattle.reply_texts.specs.Closing.{limit_reply}
@@ -11,6 +12,7 @@ use Rattle.unit_segments.specs.declared.registers.RegisterFault.TheVariants as f
 use Rattle.unit_segments.specs.declared.stripped.Stripped.{Stripped}
 use Rattle.unit_segments.specs.Segment.{goes_on_a_run}
 use Rattle.unit_segments.specs.Spelling.{chain_bytes, join}
+use Rattle.unit_segments.specs.Strip.{tells_error}
 use Rattle.unit_segments.specs.Accepts.{sets_only}
 use Rattle.plain_model.specs.Standing.{Standing, after_secchk, after_accrdb, after_end, log_with}
 use Rattle.plain_model.specs.Group.{told_typdef}
@@ -43,10 +45,15 @@ is_work (command ∷ commands) = goes_on_a_run command
 abbrev pub fit : List Command → Bool
 fit again = nat_le (length again) most_again && nat_le (length (chain_bytes again)) most_again_bytes
 
--- the segment in work was answered by these, and it can be run again with what the unit answered before
+-- No error is told: so none of the commands kept the rest of them from running, nor would one if they ran again as a chain of
+-- their own. DDM, volume 3, SVRCOD.
+abbrev pub without_error : List Dss → Bool
+without_error replies = not (list_any tells_error replies)
+
+-- the segment in work was answered by these, all of it ran, and it can be run again with what the unit answered before
 abbrev pub joins_again : List Dss → Core → Bool
 joins_again replies k =
-    sets_only k.typdef (first k.segments) replies && (not k.spoken && fit (k.again ++ first k.segments))
+    without_error replies && (sets_only k.typdef (first k.segments) replies && (not k.spoken && fit (k.again ++ first k.segments)))
 
 abbrev pub with_work : Stripped → Core → Core
 with_work r k =

@@ -5,7 +5,7 @@ use Rattle.std.specs.Prelude.{Option}
 use Rattle.std.specs.List.{flat_map}
 use Rattle.dss_frame.specs.declared.dss.Dss.{Dss}
 use Rattle.dss_frame.specs.declared.dss.Kind.TheVariants as kind
-use Rattle.ddm_codepoints.specs.CodePoint.{excsat, accsec, secchk, accrdb, rdbcmm, rdbrllbck, opnqry, excsqlimm, excsqlset, rlsconv}
+use Rattle.ddm_codepoints.specs.CodePoint.{excsat, accsec, secchk, accrdb, rdbcmm, rdbrllbck, opnqry, excsqlimm, excsqlset, rdbnam, rlsconv}
 use Rattle.reply_texts.specs.Closing.{last}
 use Rattle.unit_segments.specs.declared.command.Command.{Command}
 use Rattle.unit_segments.specs.Command.{data_of, has}
@@ -46,6 +46,10 @@ enduowrm disposition granted =
     ∷ 0x00 ∷ 0x05 ∷ 0x11 ∷ 0x9F ∷ 0xF2 ∷ []
     else 0x00 ∷ 0x0F ∷ 0x22 ∷ 0x0C ∷ 0x00 ∷ 0x06 ∷ 0x11 ∷ 0x49 ∷ 0x00 ∷ 0x04 ∷ 0x00 ∷ 0x05 ∷ 0x21 ∷ 0x15 ∷ disposition ∷ []
 
+-- A SQLCARD with SQLCODE 303122688, SQLSTATE 00000 and no name of a procedure, whose bytes are SVRCOD 240 too
+abbrev pub two_faced : List ℕ
+two_faced = 0x00 ∷ 0x16 ∷ 0x24 ∷ 0x08 ∷ 0x00 ∷ 0x12 ∷ 0x11 ∷ 0x49 ∷ 0x00 ∷ replicate 5 0xF0 ++ replicate 8 0x40
+
 -- release is granted where it is asked and no cursor is left
 abbrev pub grants : ExampleUnit → Command → Bool
 grants u c = has (data_of c.body) rlsconv && not u.cursor
@@ -53,13 +57,20 @@ grants u c = has (data_of c.body) rlsconv && not u.cursor
 abbrev pub ending : ℕ → ExampleUnit → Command → List Dss
 ending disposition u c = last kind.Reply c.corr (enduowrm disposition (grants u c)) ∷ last kind.Object c.corr success ∷ []
 
+-- success; for a command that names a database it is told twice, and the other time is an error too
+abbrev pub done_replies : Command → List Dss
+done_replies c =
+    if has (data_of c.body) rdbnam
+    then last kind.Object c.corr success ∷ last kind.Reply c.corr two_faced ∷ []
+    else last kind.Object c.corr success ∷ []
+
 abbrev pub example_replies : ℕ → ExampleUnit → Command → List Dss
 example_replies s u c =
     if c.code == secchk then last kind.Reply c.corr secchkrm ∷ []
     else (if c.code == accrdb then last kind.Reply c.corr accrdbrm ∷ []
     else (if c.code == rdbcmm then ending 1 u c
     else (if c.code == rdbrllbck then ending 2 u c
-    else last kind.Object c.corr success ∷ [])))
+    else done_replies c)))
 
 abbrev pub example_data : ℕ → ExampleUnit → Command → ℕ
 example_data s u c = if c.code == rdbcmm then suc s else s
@@ -104,6 +115,11 @@ insert = command excsqlimm 1 (0x00 ∷ 0x04 ∷ 0x20 ∷ 0x0A ∷ [])
 
 abbrev pub set : Command
 set = command excsqlset 1 (0x00 ∷ 0x04 ∷ 0x20 ∷ 0x14 ∷ [])
+
+-- of SAMPLE
+abbrev pub set_at_sample : Command
+set_at_sample = command excsqlset 1
+    (0x00 ∷ 0x0E ∷ 0x20 ∷ 0x14 ∷ 0x00 ∷ 0x0A ∷ 0x21 ∷ 0x10 ∷ 0xE2 ∷ 0xC1 ∷ 0xD4 ∷ 0xD7 ∷ 0xD3 ∷ 0xC5 ∷ [])
 
 abbrev pub open_cursor : Command
 open_cursor = command opnqry 1 (0x00 ∷ 0x04 ∷ 0x20 ∷ 0x0C ∷ [])
@@ -222,3 +238,7 @@ prccnv_reply = 0x00 ∷ 0x10 ∷ 0xD0 ∷ 0x02 ∷ 0x00 ∷ 0x01 ∷ 0x00 ∷ 0x
 -- SQLCARDs of success to 64 commands of one chain, which have one number
 abbrev pub sets_done : List ℕ
 sets_done = flat_map (λ bytes. bytes) (replicate 63 (0x00 ∷ 0x0B ∷ 0xD0 ∷ 0x53 ∷ 0x00 ∷ 0x01 ∷ 0x00 ∷ 0x05 ∷ 0x24 ∷ 0x08 ∷ 0xFF ∷ [])) ++ done
+
+-- SQLCARD of success, and the one that is an error too, to one command
+abbrev pub done_twice : List ℕ
+done_twice = (0x00 ∷ 0x0B ∷ 0xD0 ∷ 0x53 ∷ 0x00 ∷ 0x01 ∷ 0x00 ∷ 0x05 ∷ 0x24 ∷ 0x08 ∷ 0xFF ∷ 0x00 ∷ 0x1C ∷ 0xD0 ∷ 0x02 ∷ 0x00 ∷ 0x01 ∷ []) ++ two_faced

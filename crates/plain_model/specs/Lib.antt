@@ -11,4 +11,5 @@ pub mod Told
 pub mod InWork
 pub mod Sound
 pub mod Repeats
+pub mod Succeeds
 pub mod Example

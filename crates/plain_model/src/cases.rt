@@ -8,6 +8,7 @@ ghost use Rattle.plain_model.specs.Told.{Committed, RolledBack, ToldRerouted, To
 ghost use Rattle.plain_model.specs.Example.{access, begins, one_command, runs, insert, set, open_cursor, commit, roll_back};
 ghost use Rattle.plain_model.specs.Example.{greeting, welcome, done, unit_ended, rerouted, unknown, ended, ended_unknown, no_access_left};
 ghost use Rattle.plain_model.specs.Example.{Comes, unknown_first, excsat_second, cmdnsp_reply, excsat_reply, prccnv_reply, sets_done};
+ghost use Rattle.plain_model.specs.Example.{set_at_sample, done_twice};
 
 /// Units that end as they are asked to.
 pub fn units_that_end()
@@ -55,6 +56,36 @@ pub fn sets_run_again()
         (welcome ++ sets_done ++ done) 0 None 0 65 1 }
     ensures one_more { Comes (access ++ Begin (Chain (replicate 64 set)) ∷ Sent ∷ replicate 64 Run ++ Answer ∷ runs set
         ++ Lose ∷ Begin (Chain (insert ∷ [])) ∷ Accept ∷ []) (welcome ++ sets_done ++ done ++ rerouted) 0 (Some ToldRerouted) 0 0 2 }
+{}
+
+/// Of a lost unit, and of one that has ended, nothing runs again: the unit of the new conversation has just what came after.
+pub fn nothing_else_runs_again()
+    ensures lost { Comes (access ++ runs set ++ runs insert ++ Lose ∷ []) (welcome ++ done ++ done) 0 None 0 0 2 }
+    ensures lost_and_told { Comes (access ++ runs set ++ runs insert ++ Lose ∷ Begin (Chain (insert ∷ [])) ∷ Accept ∷ runs set)
+        (welcome ++ done ++ done ++ rerouted ++ done) 0 (Some ToldRerouted) 0 1 2 }
+    ensures commit_lost { Comes (access ++ runs set ++ Begin (Chain (commit ∷ [])) ∷ Sent ∷ Lose ∷ [])
+        (welcome ++ done) 0 None 0 0 2 }
+    ensures ended { Comes (access ++ runs set ++ runs commit ++ Lose ∷ runs insert) (welcome ++ done ++ unit_ended 1 ++ done) 1 (Some Committed) 1 1 2 }
+{}
+
+/// Access is no work of a unit: a conversation that is lost behind it is replaced without a word.
+pub fn losses_of_access()
+    ensures behind_it { Comes (access ++ Lose ∷ runs insert) (welcome ++ done) 0 None 0 1 1 }
+    ensures within_it { Comes (begins ++ one_command ++ Lose ∷ one_command) welcome 0 None 0 0 1 }
+{}
+
+/// A commit whose replies were lost isn't told as done, though it is: not where it is lost, and not where no member is left.
+pub fn lost_replies()
+    ensures not_told_yet { Comes (access ++ Begin (Chain (commit ∷ [])) ∷ Sent ∷ Run ∷ Lose ∷ []) welcome 1 None 1 0 2 }
+    ensures no_member { Comes (access ++ Begin (Chain (commit ∷ [])) ∷ Sent ∷ Run ∷ Lose ∷ NoneLeft ∷ [])
+        (welcome ++ ended_unknown) 1 (Some ToldUnknown) 1 0 2 }
+{}
+
+/// A segment of which not all commands ran doesn't run again: its first SET is answered twice, by a SQLCARD of success and by
+/// one that is an error too, so its second never ran, though there is a SQLCARD for each.
+pub fn not_all_ran()
+    ensures stopped { Comes (access ++ Begin (Chain (set_at_sample ∷ set ∷ [])) ∷ Sent ∷ Run ∷ Answer ∷ Lose ∷ Begin (Chain (insert ∷ [])) ∷ Accept ∷ [])
+        (welcome ++ done_twice ++ rerouted) 0 (Some ToldRerouted) 0 0 2 }
 {}
 
 /// What the gateway itself answers: a code point that is no command, after which the chain goes on, or doesn't; and a command
