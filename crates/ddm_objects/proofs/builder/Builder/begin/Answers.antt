@@ -1,4 +1,4 @@
-use Rattle.std.proofs.Common.{[], ◌∷◌, refl, lit<, arith}
+use Rattle.std.proofs.Common.{[], ◌∷◌, refl, ◌∙◌, lit<, arith}
 use Rattle.ddm_objects.proofs.Building.Fields.{depth_is, begin_fits, begin_is}
 use Rattle.ddm_objects.proofs.builder.Builder.begin.Goals as goal
 
@@ -14,7 +14,7 @@ invariant_of-self-2 c =
       code =
           c.args.code;
     }) c.self.inside.bytes.items (0 ∷ 0 ∷ 0 ∷ 0 ∷ []) c.extend_from_slice.new.self.items c.args.self.now
-    c.push.ensures.items c.in_ok-extend_from_slice.ensures.ok c.len-at.ensures.value refl c.self.view_is c.self.invariant.0 c.requires.room
+    c.push.ensures.items c.in_ok-extend_from_slice.ensures.items (c.len-at.ensures ∙ c.self.inside.bytes.ok.0) refl c.self.view_is c.self.invariant.0 c.requires.room
 
 pub returns-clause-ok : goal.returns-clause-ok
 returns-clause-ok c =
@@ -23,4 +23,4 @@ returns-clause-ok c =
       code =
           c.args.code;
     }) c.self.inside.bytes.items (0 ∷ 0 ∷ 0 ∷ 0 ∷ []) c.extend_from_slice.new.self.items c.args.self.now
-    c.push.ensures.items c.in_ok-extend_from_slice.ensures.ok c.len-at.ensures.value refl c.self.view_is
+    c.push.ensures.items c.in_ok-extend_from_slice.ensures.items (c.len-at.ensures ∙ c.self.inside.bytes.ok.0) refl c.self.view_is

@@ -1,4 +1,4 @@
-use Rattle.std.proofs.Common.{length, arith}
+use Rattle.std.proofs.Common.{length, ◌∙◌, arith}
 use Rattle.ddm_objects.proofs.Building.Fields.{HasLast, header_fits, long_is, not_empty}
 use Rattle.ddm_objects.proofs.builder.Builder.is_long.Goals as goal
 
@@ -10,12 +10,12 @@ has_last c =
 pub overflow_sub-result : goal.overflow_sub-result
 overflow_sub-result c =
     let fits = header_fits _ _ _ _ _ _ (has_last c) in
-    omega (arith, fits, c.len-2.ensures.value)
+    omega (arith, fits, c.len-2.ensures, c.self.inside.bytes.ok.0)
 
 pub overflow_sub-result-2 : goal.overflow_sub-result-2
 overflow_sub-result-2 c =
     let fits = header_fits _ _ _ _ _ _ (has_last c) in
-    omega (arith, fits, c.len-2.ensures.value)
+    omega (arith, fits, c.len-2.ensures, c.self.inside.bytes.ok.0)
 
 pub returns : goal.returns
-returns c = long_is _ _ _ _ c.len-2.result _ _ (has_last c) c.len-2.ensures.value
+returns c = long_is _ _ _ _ c.len-2.result _ _ (has_last c) (c.len-2.ensures ∙ c.self.inside.bytes.ok.0)
