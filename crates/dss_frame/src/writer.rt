@@ -108,7 +108,10 @@ fn push_segments(dss: &Dss, out: &mut Octets) -> Result<(), NoMemory>
     ensures err { OnErr result (Extends out.old out.new) }
 {
     let (part, mut rest) = cut(dss.body.as_slice(), FIRST_ROOM);
-    out.push_front_of(&header_bytes(dss, HEADER + part.len(), !rest.is_empty()), HEADER)?;
+    out.push_front_of(
+        &header_bytes(dss, HEADER + part.len(), !rest.is_empty()),
+        HEADER,
+    )?;
     out.push_all(part)?;
     while !rest.is_empty() {
         let (part, after) = cut(rest, FURTHER_ROOM);
