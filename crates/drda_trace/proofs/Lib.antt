@@ -1,0 +1,4 @@
+pub mod Capturing
+mod Numbers
+mod Reading
+mod Showing

@@ -1,0 +1,2 @@
+pub mod Triplets
+pub mod Seen
