@@ -1,4 +1,5 @@
 pub mod Rows
+pub mod Commit
 pub mod Unit
 pub mod Reply
 pub mod Statement
@@ -7,3 +8,4 @@ pub mod Execute
 pub mod Query
 pub mod UnitEnd
 pub mod Store
+pub mod Setup

@@ -58,10 +58,14 @@ opnqry_answered rows unit c =
 abbrev pub closed : UnitState → ℕ → UnitState
 closed unit section = record unit { cursors = without_section section unit.cursors }
 
+-- the cursor's place is taken by one with the rows that are left
+abbrev pub left_open : UnitState → ℕ → CursorState → UnitState
+left_open unit section cursor = record unit { cursors = with_section section cursor (without_section section unit.cursors) }
+
 abbrev pub fetched : UnitState → ℕ → Bool → List (ℕ × List ℕ) → Answered
 fetched unit section held [] = record { unit = closed unit section; said = message endqryrm_object ∷ card_said NotFound ∷ [] }
 fetched unit section held (row ∷ rows) =
-    says (record unit { cursors = with_section section (record { held = held; rows = rows }) unit.cursors }) (reply_data (qrydta_object row))
+    says (left_open unit section (record { held = held; rows = rows })) (reply_data (qrydta_object row))
 
 abbrev pub fetches : UnitState → ℕ → Option CursorState → Answered
 fetches unit section None = says unit (message qrynoprm_object)

@@ -1,12 +1,12 @@
 -- The rows of the group's one table, and what a unit of work writes over them. DRDA, volume 1, units of work; the table, its
 -- schemas and the numbers of commits are this project's own.
-use Rattle.std.specs.Prelude.{ℕ, Bool, true, false, ◌&&◌, List, [], ◌∷◌, map, bytes_eq, nat_lt, unwrap_or}
+use Rattle.std.specs.Prelude.{ℕ, Bool, if◌then◌else◌, List, [], ◌∷◌, bytes_eq, nat_lt, unwrap_or}
 use Rattle.std.specs.Prelude.{Option, Some, None, option_map, option_and_then}
 use Rattle.std.specs.List.{list_any}
 use Rattle.std.specs.Ordering.{nat_cmp, ordering_then}
 use Rattle.std.specs.Cmp.Lexicographic.{slice_cmp}
 use Rattle.std.specs.declared.cmp.Ordering.{Ordering}
-use Rattle.std.specs.Map.{lookup}
+use Rattle.std.specs.Map.{lookup, remove_entry}
 use Rattle.std.specs.BTreeMap.{is_at, insert_entry}
 use Rattle.group_store.specs.declared.rows.Place.{Place}
 use Rattle.group_store.specs.declared.rows.Version.{Version}
@@ -79,15 +79,23 @@ abbrev pub rows_there : Rows → List Row
 rows_there [] = []
 rows_there (entry ∷ rows) = row_before entry.0 entry.1.text (rows_there rows)
 
-abbrev pub keyed_before : Bool → ℕ → Option (List ℕ) → List (ℕ × List ℕ) → List (ℕ × List ℕ)
-keyed_before true key (Some text) others = (key, text) ∷ others
-keyed_before _ key _ others = others
+-- texts by keys, in order of the keys, with this text at its key, or without what is there
+abbrev pub with_text : ℕ → Option (List ℕ) → List (ℕ × List ℕ) → List (ℕ × List ℕ)
+with_text key None seen = remove_entry (is_at (nat_cmp key)) seen
+with_text key (Some text) seen = insert_entry nat_cmp seen key text
 
--- the keys and the texts of those in a schema, by key
-abbrev pub rows_in : List ℕ → Rows → List (ℕ × List ℕ)
-rows_in schema [] = []
-rows_in schema (entry ∷ rows) = keyed_before (bytes_eq schema entry.0.schema) entry.0.key entry.1.text (rows_in schema rows)
+-- with the row at a place, where this is in the schema
+abbrev pub with_row : List ℕ → Place → Option (List ℕ) → List (ℕ × List ℕ) → List (ℕ × List ℕ)
+with_row schema place text seen = if bytes_eq place.schema schema then with_text place.key text seen else seen
 
--- those that a unit sees in a schema: as a commit would leave them, whatever its number
+abbrev pub with_rows : List ℕ → Rows → List (ℕ × List ℕ) → List (ℕ × List ℕ)
+with_rows schema [] seen = seen
+with_rows schema (entry ∷ rows) seen = with_rows schema rows (with_row schema entry.0 entry.1.text seen)
+
+abbrev pub with_own : List ℕ → Writes → List (ℕ × List ℕ) → List (ℕ × List ℕ)
+with_own schema [] seen = seen
+with_own schema (entry ∷ writes) seen = with_own schema writes (with_row schema entry.0 entry.1.text seen)
+
+-- the rows that a unit sees in a schema, by key: the group's, and over them what it wrote
 abbrev pub rows_seen : List ℕ → Rows → Writes → List (ℕ × List ℕ)
-rows_seen schema rows writes = rows_in schema (with_writes 0 writes rows)
+rows_seen schema rows writes = with_own schema writes (with_rows schema rows [])

@@ -1,6 +1,6 @@
 -- The statements of a command, and its section. DRDA, volume 3, SQLSTT, SQLATTR, PKGNAMCSN; which of several counts is this
 -- project's choice.
-use Rattle.std.specs.Prelude.{ℕ, ◌-◌, ◌==◌, Bool, false, ◌&&◌, if◌then◌else◌, List, codes, length, drop, map, filter, find, bytes_eq, nat_lt}
+use Rattle.std.specs.Prelude.{ℕ, ◌-◌, ◌≤◌, ◌==◌, Bool, false, ◌&&◌, if◌then◌else◌, List, codes, length, drop, map, filter, find, bytes_eq, nat_lt}
 use Rattle.std.specs.Prelude.{Option, Some, None, option_map, option_and_then}
 use Rattle.std.specs.List.{list_any}
 use Rattle.byteorder.specs.Endian.{big_number}
@@ -12,6 +12,9 @@ use Rattle.unit_segments.specs.declared.command.Command.{Command}
 use Rattle.unit_segments.specs.Command.{code_of, data_of}
 use Rattle.unit_segments.specs.Statement.{Statement as SqlText, statement_of as sql_text_of}
 use Rattle.member_statements.specs.declared.statement.Statement.{Statement}
+use Rattle.member_statements.specs.declared.statement.Statement.TheVariants.{Insert, Update, Delete, Set, Select}
+use Rattle.member_statements.specs.Register.{IsRegister}
+use Rattle.member_statements.specs.Statement.{most_text}
 use Rattle.member_statements.specs.Reading.{statement_of}
 
 -- ---- objects of a command
@@ -37,6 +40,14 @@ text_of typdef bytes = option_and_then (λ found. text_in typdef found.text) (sq
 -- the statement that the data of a SQLSTT are, if they are one
 abbrev pub statement_in : TypDef → List ℕ → Option Statement
 statement_in typdef bytes = option_and_then statement_of (text_of typdef bytes)
+
+-- A statement that was read has a short text, and a register that has a name.
+abbrev pub IsSound : Statement → Type 0
+IsSound (Insert key text) = length text ≤ most_text
+IsSound (Update key text) = length text ≤ most_text
+IsSound (Delete key) = Unit {0}
+IsSound (Set register value) = IsRegister register × (length value ≤ most_text)
+IsSound Select = Unit {0}
 
 -- the statement of a command that has one: its first SQLSTT
 abbrev pub first_statement : TypDef → Command → Option Statement

@@ -1,6 +1,7 @@
 -- What a conversation has of its own. DDM, volume 3, EXCSAT, ACCSEC, SECCHK, ACCRDB; DRDA, volume 1, units of work; DRDA, volume
 -- 3, EXCSQLSET, PRPSQLSTT, OPNQRY.
 use Rattle.std.specs.Prelude.{ℕ, ◌+◌, Bool, List, [], ◌∷◌, filter, unwrap_or, Option}
+use Rattle.std.specs.List.{AllByRecursion}
 use Rattle.std.specs.Ordering.{nat_cmp}
 use Rattle.std.specs.declared.cmp.Ordering.{Ordering}
 use Rattle.std.specs.Map.{lookup}
@@ -11,6 +12,7 @@ use Rattle.access_handshake.specs.declared.stage.Stage.{Stage}
 use Rattle.access_handshake.specs.declared.stage.Stage.TheVariants.{Checked, Accessed}
 use Rattle.member_statements.specs.declared.register.Register.{Register}
 use Rattle.member_statements.specs.declared.register.Register.TheVariants.{Schema, Degree, Path, Numbered}
+use Rattle.member_statements.specs.Register.{IsRegister}
 use Rattle.group_store.specs.Rows.{Writes}
 
 -- ---- registers: the order in which they are told, CURRENT SCHEMA, CURRENT DEGREE, CURRENT PATH, and R1 to R99
@@ -27,6 +29,10 @@ register_order a b = nat_cmp (register_rank a) (register_rank b)
 -- registers that are set, in this order, with their values
 abbrev pub Registers : Type 0
 Registers = List (Register × List ℕ)
+
+-- each of them has a name
+abbrev pub AreRegisters : Registers → Type 0
+AreRegisters registers = AllByRecursion (λ entry. IsRegister entry.0) registers
 
 -- ---- cursors
 

@@ -22,7 +22,7 @@ pub(crate) struct FaultInBody {
 }
 
 /// The code point of the object that a body is, 0 where it is none.
-pub(crate) fn code_of(body: &[u8]) -> u16
+pub fn code_of(body: &[u8]) -> u16
     ensures { result ≡ code_of body.now }
 {
     match outer(body) {
@@ -32,7 +32,7 @@ pub(crate) fn code_of(body: &[u8]) -> u16
 }
 
 /// The data of the object that a body is, none where it is no object.
-pub(crate) fn data_of(body: &[u8]) -> &[u8]
+pub fn data_of(body: &[u8]) -> &[u8]
     ensures data { result.now ≡ data_of body.now }
     ensures size { length result.now ≤ length body.now - 4 }
 {

@@ -18,6 +18,7 @@ mod statement;
 mod stripped;
 mod write;
 
+pub use body::{code_of, data_of};
 pub use chain_reader::ChainReader;
 pub use command::{Chain, Command, CommandList};
 pub use fault::ChainFault;
@@ -31,6 +32,7 @@ pub use laws::{
 pub use registers::{RegisterFault, RegisterLog};
 pub use release::ask_release;
 pub use segment::{Segment, SegmentList, cut};
+pub use statement::sql_text;
 pub use stripped::{Stripped, strip};
 pub use write::write_chain;
 
