@@ -45,7 +45,7 @@ module _ {K X : Type 0} (cmp : K → K → Ordering) (k : K) (same : cmp k k ≡
     by_order : (o : Ordering) → cmp k e.0 ≡ o
         → length (match_ordering o ((k, v) ∷ e ∷ es) ((e.0, v) ∷ es) (e ∷ insert_entry cmp es k v)) ≡ length (e ∷ es)
         → (lookup (is_at (cmp k)) es ≡ Some w → length (insert_entry cmp es k v) ≡ length es
-            → set_value (is_at (cmp k)) (insert_entry cmp es k v) w ≡ es)
+        → set_value (is_at (cmp k)) (insert_entry cmp es k v) w ≡ es)
         → set_value (is_at (cmp k)) (match_ordering o ((k, v) ∷ e ∷ es) ((e.0, v) ∷ es) (e ∷ insert_entry cmp es k v)) w ≡ e ∷ es
     by_order Less is size others = absurd (omega (arith, size))
     by_order Equal is size others = rw is (grind (arith, is, some))

@@ -1,6 +1,6 @@
 -- Prepared statements and cursors. DRDA, volume 3, PRPSQLSTT, OPNQRY, CNTQRY, CLSQRY; that a cursor has the rows of the moment
 -- when it was opened, and is fetched row by row, is this project's own.
-use Rattle.std.specs.Prelude.{ℕ, Bool, List, [], ◌∷◌, Option, Some, None}
+use Rattle.std.specs.Prelude.{ℕ, Bool, true, false, if◌then◌else◌, List, [], ◌∷◌, Option, Some, None}
 use Rattle.std.specs.Ordering.{nat_cmp}
 use Rattle.std.specs.Map.{lookup, remove_entry}
 use Rattle.std.specs.BTreeMap.{is_at, insert_entry}
@@ -26,13 +26,18 @@ without_section section entries = remove_entry (is_at (nat_cmp section)) entries
 
 -- ---- PRPSQLSTT: its first SQLSTT is the SELECT
 
-abbrev pub prepares : UnitState → Command → Option Statement → Answered
-prepares unit c (Some Select) =
-    says (record unit { prepared = with_section (section_of c) (is_held unit.typdef c) unit.prepared }) (card_said Success)
-prepares unit c _ = says unit (card_said NoStatement)
+abbrev pub is_select : Option Statement → Bool
+is_select (Some Select) = true
+is_select _ = false
+
+abbrev pub prepared : UnitState → Command → UnitState
+prepared unit c = record unit { prepared = with_section (section_of c) (is_held unit.typdef c) unit.prepared }
 
 unfoldable pub prpsqlstt_answered : UnitState → Command → Answered
-prpsqlstt_answered unit c = prepares unit c (first_statement unit.typdef c)
+prpsqlstt_answered unit c =
+    if is_select (first_statement unit.typdef c)
+    then says (prepared unit c) (card_said Success)
+    else says unit (card_said NoStatement)
 
 -- ---- OPNQRY
 

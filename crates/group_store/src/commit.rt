@@ -26,13 +26,7 @@ impl Store {
     {
         let number = self.commits.saturating_add(1);
         let mut replaced = Vec::new(self.alloc);
-        let done = put_all(
-            self.alloc,
-            &mut self.rows,
-            writes,
-            number,
-            &mut replaced,
-        );
+        let done = put_all(self.alloc, &mut self.rows, writes, number, &mut replaced);
         if done.is_err() {
             take_back(&mut self.rows, replaced);
             return Err(NoMemory);
@@ -102,10 +96,11 @@ fn take_back(rows: &mut BTreeMap<Place, Version>, replaced: Vec<Replaced>)
 fn put_back(rows: &mut BTreeMap<Place, Version>, replaced: Replaced)
     ensures { rows.new.entries ≡ with_version replaced.place replaced.version rows.old.entries }
 {
-    match replaced.version {
-        Some(version) => put_over(rows, &replaced.place, version),
+    let Replaced { place, version } = replaced;
+    match version {
+        Some(version) => put_over(rows, &place, version),
         None => {
-            rows.remove(&replaced.place);
+            rows.remove(&place);
         }
     }
 }

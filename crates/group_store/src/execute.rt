@@ -1,7 +1,8 @@
 ghost use Rattle.std.specs.Prelude.{◌≡◌, is_some, IfOk, IfSome, OnOk, ℕ, List, Some};
 ghost use Rattle.group_store.specs.Reply.{dsss_of, says, card_said};
 ghost use Rattle.group_store.specs.Rows.{seen_at};
-ghost use Rattle.group_store.specs.Statement.{data_with, IsSound};
+ghost use Rattle.group_store.specs.Statement.{is_object_with, data_with, IsSound};
+ghost use Rattle.std.specs.List.{list_any};
 ghost use Rattle.group_store.specs.Execute.{inserted, replaced, after_sets, statement_done, excsqlimm_answered, excsqlset_answered};
 ghost use Rattle.ddm_codepoints.specs.CodePoint.{sqlstt};
 ghost use Rattle.unit_segments.specs.declared.command.Command.{Command};
@@ -58,12 +59,7 @@ impl Store {
     }
 
     /// Inserts a row that isn't there.
-    fn insert(
-        &self,
-        unit: &mut StoreUnit,
-        key: u32,
-        text: Text,
-    ) -> Result<SqlOutcome, NoMemory>
+    fn insert(&self, unit: &mut StoreUnit, key: u32, text: Text) -> Result<SqlOutcome, NoMemory>
         ensures { IfOk result (λ outcome. inserted self.now.rows self.now.commits unit.old key text ≡ says unit.new (card_said outcome)) }
     {
         let place = unit.place(key)?;
@@ -112,11 +108,18 @@ pub(crate) fn excsqlset(unit: &mut StoreUnit, command: &Command) -> Result<DssLi
     ensures unit { OnOk result (unit.new ≡ (excsqlset_answered unit.old command.now).unit) }
 {
     let objects = command.objects.as_slice();
-    if !objects.iter().any(|body| is_object_with(body, SQLSTT)) {
+    if !has_statement(objects) {
         return card(unit.alloc, command.corr, SqlOutcome::NoStatement);
     }
     let outcome = set_all(unit, objects)?;
     card(unit.alloc, command.corr, outcome)
+}
+
+/// Whether one of these bodies is a SQLSTT.
+fn has_statement(objects: &[Octets]) -> bool
+    ensures { result ≡ list_any (is_object_with sqlstt) objects.now }
+{
+    objects.iter().any(|body| is_object_with(body, SQLSTT))
 }
 
 /// Runs the SET statements that these objects have, in order, up to the first that is none.

@@ -1,6 +1,6 @@
 ghost use Rattle.std.specs.Prelude.{◌≡◌, [], ◌∷◌, IfOk, OnOk};
 ghost use Rattle.group_store.specs.Reply.{dsss_of, message, reply_data};
-ghost use Rattle.group_store.specs.Query.{prpsqlstt_answered, opnqry_answered, cntqry_answered, clsqry_answered};
+ghost use Rattle.group_store.specs.Query.{is_select, prpsqlstt_answered, opnqry_answered, cntqry_answered, clsqry_answered};
 
 use crate::reply::{
     card, endqryrm, message, opnqryrm, put_data, put_message, qrydsc, qrydta, qrynoprm, reply_data,
@@ -23,20 +23,20 @@ pub(crate) fn prpsqlstt(unit: &mut StoreUnit, command: &Command) -> Result<DssLi
     ensures unit { OnOk result (unit.new ≡ (prpsqlstt_answered unit.old command.now).unit) }
 {
     let alloc = unit.alloc;
-    match first_statement(alloc, unit.typdef, command)? {
-        Some(Statement::Select) => {
-            let held = is_held(unit.typdef, command);
-            unit.prepared.insert(section_of(command), held)?;
-            card(alloc, command.corr, SqlOutcome::Success)
-        }
-        Some(
-            Statement::Insert { .. }
-            | Statement::Update { .. }
-            | Statement::Delete { .. }
-            | Statement::Set { .. },
-        )
-        | None => card(alloc, command.corr, SqlOutcome::NoStatement),
+    let statement = first_statement(alloc, unit.typdef, command)?;
+    if !is_select(&statement) {
+        return card(alloc, command.corr, SqlOutcome::NoStatement);
     }
+    let held = is_held(unit.typdef, command);
+    unit.prepared.insert(section_of(command), held)?;
+    card(alloc, command.corr, SqlOutcome::Success)
+}
+
+/// Whether this is the SELECT.
+fn is_select(statement: &Option<Statement>) -> bool
+    ensures { result ≡ is_select statement.now }
+{
+    matches!(statement, Some(Statement::Select))
 }
 
 impl Store {
@@ -60,12 +60,7 @@ impl Store {
         }
         let rows = self.rows_seen(unit)?;
         unit.cursors.insert(section, Cursor { held, rows })?;
-        two(
-            alloc,
-            command.corr,
-            opnqryrm(alloc)?,
-            qrydsc(alloc)?,
-        )
+        two(alloc, command.corr, opnqryrm(alloc)?, qrydsc(alloc)?)
     }
 }
 
@@ -106,12 +101,7 @@ pub(crate) fn clsqry(unit: &mut StoreUnit, command: &Command) -> Result<DssList,
 }
 
 /// A reply message and reply data behind it.
-fn two(
-    alloc: Global,
-    corr: u16,
-    object: Octets,
-    behind: Octets,
-) -> Result<DssList, NoMemory>
+fn two(alloc: Global, corr: u16, object: Octets, behind: Octets) -> Result<DssList, NoMemory>
     ensures { IfOk result (λ replies. replies ≡ dsss_of corr (message object ∷ reply_data behind ∷ [])) }
 {
     let mut replies = Sequence::new(alloc);

@@ -89,11 +89,7 @@ impl Store {
 }
 
 /// Puts a text at its key, or takes out what is there.
-fn put(
-    seen: &mut BTreeMap<u32, Text>,
-    key: u32,
-    text: &Option<Text>,
-) -> Result<(), NoMemory>
+fn put(seen: &mut BTreeMap<u32, Text>, key: u32, text: &Option<Text>) -> Result<(), NoMemory>
     ensures { OnOk result (seen.new.entries ≡ with_text key text.now seen.old.entries) }
 {
     match text {

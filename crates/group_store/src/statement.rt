@@ -91,11 +91,8 @@ pub(crate) fn first_statement(
 pub(crate) fn is_held(typdef: TypDef, command: &Command) -> bool
     ensures { result ≡ is_held typdef command.now }
 {
-    command
-        .objects
-        .as_slice()
-        .iter()
-        .any(|body| is_object_with(body, SQLATTR) && is_hold(typdef, data_of(body.as_slice())))
+    command.objects.as_slice().iter().any(|body| is_object_with(body, SQLATTR)
+        && is_hold(typdef, data_of(body.as_slice())))
 }
 
 /// Whether the data of a SQLATTR are just WITH HOLD.

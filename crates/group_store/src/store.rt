@@ -82,11 +82,7 @@ impl Store {
     /// Runs one command, and answers it. A command that isn't known is answered CMDNSPRM at every stage, and one that the stage
     /// doesn't allow PRCCNVRM. After want of memory the data are as before, and the unit can only be dropped.
     #[tactic(auto, unfolding(crate::specs::Store::answered, crate::specs::Store::data_after, crate::specs::Store::unit_after, crate::specs::Store::replies))]
-    pub fn exec(
-        &mut self,
-        unit: &mut StoreUnit,
-        command: &Command,
-    ) -> Result<DssList, NoMemory>
+    pub fn exec(&mut self, unit: &mut StoreUnit, command: &Command) -> Result<DssList, NoMemory>
         ensures replies { IfOk result (λ given. given ≡ replies self.old unit.old command.now) }
         ensures shared { OnOk result (self.new ≡ data_after self.old unit.old command.now) }
         ensures unit { OnOk result (unit.new ≡ unit_after self.old unit.old command.now) }
@@ -107,11 +103,7 @@ impl Store {
     }
 
     /// Runs a command that is known, that the stage allows, and that isn't RDBCMM.
-    fn do_other(
-        &self,
-        unit: &mut StoreUnit,
-        command: &Command,
-    ) -> Result<DssList, NoMemory>
+    fn do_other(&self, unit: &mut StoreUnit, command: &Command) -> Result<DssList, NoMemory>
         requires known { IsTrue (is_known command.now.code) }
         requires other { (command.now.code == rdbcmm) ≡ false }
         ensures said { IfOk result (λ given. given ≡ dsss_of command.now.corr (done self.now unit.old command.now).said) }

@@ -41,7 +41,9 @@ const COMMIT: [u8; 14] = [
 const ROLL_BACK: [u8; 4] = [0x00, 0x04, 0x20, 0x0F];
 
 /// The DSS of a SQLCARD of success.
-const DONE: [u8; 11] = [0x00, 0x0B, 0xD0, 0x03, 0x00, 0x01, 0x00, 0x05, 0x24, 0x08, 0xFF];
+const DONE: [u8; 11] = [
+    0x00, 0x0B, 0xD0, 0x03, 0x00, 0x01, 0x00, 0x05, 0x24, 0x08, 0xFF,
+];
 
 /// A store with the user ALICE, and a row with key 1.
 fn store(alloc: Global) -> Result<Store, Fail> {
@@ -91,7 +93,17 @@ fn text_object(alloc: Global, code: [u8; 2], text: &[u8]) -> Result<Octets, Fail
     let size = u8::try_from(text.len())?;
     let mut object = Octets::of(
         alloc,
-        &[0x00, size.saturating_add(10), code[0], code[1], 0x00, 0x00, 0x00, 0x00, size],
+        &[
+            0x00,
+            size.saturating_add(10),
+            code[0],
+            code[1],
+            0x00,
+            0x00,
+            0x00,
+            0x00,
+            size,
+        ],
     )?;
     object.push_all(coded.as_slice())?;
     object.push_all(&[0xFF])?;
@@ -114,7 +126,9 @@ fn state(
 /// A command with section 5 alone.
 fn section(code: u16) -> [u8; 10] {
     let code = code.to_be_bytes();
-    [0x00, 0x0A, code[0], code[1], 0x00, 0x06, 0x21, 0x13, 0x00, 0x05]
+    [
+        0x00, 0x0A, code[0], code[1], 0x00, 0x06, 0x21, 0x13, 0x00, 0x05,
+    ]
 }
 
 /// The unit of ALICE, who accessed the database.
@@ -144,7 +158,9 @@ fn card(told: &[u8; 9]) -> [u8; 30] {
 }
 
 const DUPLICATE: [u8; 9] = [0xFF, 0xFF, 0xFC, 0xDD, 0xF2, 0xF3, 0xF5, 0xF0, 0xF5];
+
 const NOT_FOUND: [u8; 9] = [0x00, 0x00, 0x00, 0x64, 0xF0, 0xF2, 0xF0, 0xF0, 0xF0];
+
 const NO_STATEMENT: [u8; 9] = [0xFF, 0xFF, 0xFF, 0x98, 0xF4, 0xF2, 0xF6, 0xF0, 0xF1];
 
 #[test]
@@ -215,22 +231,74 @@ fn statements_are_answered(rt: HostRuntime) -> Result<(), Fail> {
     let not_found = card(&NOT_FOUND);
     let no_statement = card(&NO_STATEMENT);
     for (code, text, wanted) in [
-        (EXCSQLIMM, b"INSERT INTO T VALUES (1, 'B')".as_slice(), duplicate.as_slice()),
-        (EXCSQLIMM, b"INSERT INTO T VALUES (2, 'B')".as_slice(), DONE.as_slice()),
-        (EXCSQLIMM, b"INSERT INTO T VALUES (002, 'B')".as_slice(), duplicate.as_slice()),
-        (EXCSQLIMM, b"UPDATE T SET V = 'C' WHERE K = 1".as_slice(), DONE.as_slice()),
-        (EXCSQLIMM, b"UPDATE T SET V = 'C' WHERE K = 3".as_slice(), not_found.as_slice()),
-        (EXCSQLIMM, b"DELETE FROM T WHERE K = 1".as_slice(), DONE.as_slice()),
-        (EXCSQLIMM, b"DELETE FROM T WHERE K = 1".as_slice(), not_found.as_slice()),
-        (EXCSQLIMM, b"INSERT INTO T VALUES (1, 'D')".as_slice(), DONE.as_slice()),
-        (EXCSQLIMM, b"SELECT K, V FROM T".as_slice(), no_statement.as_slice()),
+        (
+            EXCSQLIMM,
+            b"INSERT INTO T VALUES (1, 'B')".as_slice(),
+            duplicate.as_slice(),
+        ),
+        (
+            EXCSQLIMM,
+            b"INSERT INTO T VALUES (2, 'B')".as_slice(),
+            DONE.as_slice(),
+        ),
+        (
+            EXCSQLIMM,
+            b"INSERT INTO T VALUES (002, 'B')".as_slice(),
+            duplicate.as_slice(),
+        ),
+        (
+            EXCSQLIMM,
+            b"UPDATE T SET V = 'C' WHERE K = 1".as_slice(),
+            DONE.as_slice(),
+        ),
+        (
+            EXCSQLIMM,
+            b"UPDATE T SET V = 'C' WHERE K = 3".as_slice(),
+            not_found.as_slice(),
+        ),
+        (
+            EXCSQLIMM,
+            b"DELETE FROM T WHERE K = 1".as_slice(),
+            DONE.as_slice(),
+        ),
+        (
+            EXCSQLIMM,
+            b"DELETE FROM T WHERE K = 1".as_slice(),
+            not_found.as_slice(),
+        ),
+        (
+            EXCSQLIMM,
+            b"INSERT INTO T VALUES (1, 'D')".as_slice(),
+            DONE.as_slice(),
+        ),
+        (
+            EXCSQLIMM,
+            b"SELECT K, V FROM T".as_slice(),
+            no_statement.as_slice(),
+        ),
         (EXCSQLIMM, b"COMMIT".as_slice(), no_statement.as_slice()),
         (EXCSQLSET, b"SET R7 = 'x'".as_slice(), DONE.as_slice()),
-        (EXCSQLSET, b"DELETE FROM T WHERE K = 1".as_slice(), no_statement.as_slice()),
-        (PRPSQLSTT, b"SET R7 = 'x'".as_slice(), no_statement.as_slice()),
+        (
+            EXCSQLSET,
+            b"DELETE FROM T WHERE K = 1".as_slice(),
+            no_statement.as_slice(),
+        ),
+        (
+            PRPSQLSTT,
+            b"SET R7 = 'x'".as_slice(),
+            no_statement.as_slice(),
+        ),
         (PRPSQLSTT, b"SELECT K, V FROM T".as_slice(), DONE.as_slice()),
-        (EXCSQLIMM, b"SET CURRENT SCHEMA = 'S'".as_slice(), DONE.as_slice()),
-        (EXCSQLIMM, b"DELETE FROM T WHERE K = 1".as_slice(), not_found.as_slice()),
+        (
+            EXCSQLIMM,
+            b"SET CURRENT SCHEMA = 'S'".as_slice(),
+            DONE.as_slice(),
+        ),
+        (
+            EXCSQLIMM,
+            b"DELETE FROM T WHERE K = 1".as_slice(),
+            not_found.as_slice(),
+        ),
     ] {
         let replies = state(&mut store, &mut unit, rt.alloc(), code, text)?;
         assert_eq!(rt; replies.as_slice(), wanted);
@@ -249,16 +317,59 @@ fn statements_are_answered(rt: HostRuntime) -> Result<(), Fail> {
 /// ENDUOWRM with this UOWDSP, without RLSCONV.
 fn held(disposition: u8) -> [u8; 21] {
     [
-        0x00, 0x15, 0xD0, 0x52, 0x00, 0x01, 0x00, 0x0F, 0x22, 0x0C, 0x00, 0x06, 0x11, 0x49, 0x00,
-        0x04, 0x00, 0x05, 0x21, 0x15, disposition,
+        0x00,
+        0x15,
+        0xD0,
+        0x52,
+        0x00,
+        0x01,
+        0x00,
+        0x0F,
+        0x22,
+        0x0C,
+        0x00,
+        0x06,
+        0x11,
+        0x49,
+        0x00,
+        0x04,
+        0x00,
+        0x05,
+        0x21,
+        0x15,
+        disposition,
     ]
 }
 
 /// ENDUOWRM with this UOWDSP and RLSCONV.
 fn granted(disposition: u8) -> [u8; 26] {
     [
-        0x00, 0x1A, 0xD0, 0x52, 0x00, 0x01, 0x00, 0x14, 0x22, 0x0C, 0x00, 0x06, 0x11, 0x49, 0x00,
-        0x04, 0x00, 0x05, 0x21, 0x15, disposition, 0x00, 0x05, 0x11, 0x9F, 0xF2,
+        0x00,
+        0x1A,
+        0xD0,
+        0x52,
+        0x00,
+        0x01,
+        0x00,
+        0x14,
+        0x22,
+        0x0C,
+        0x00,
+        0x06,
+        0x11,
+        0x49,
+        0x00,
+        0x04,
+        0x00,
+        0x05,
+        0x21,
+        0x15,
+        disposition,
+        0x00,
+        0x05,
+        0x11,
+        0x9F,
+        0xF2,
     ]
 }
 
@@ -277,14 +388,38 @@ fn conflicts_roll_back(rt: HostRuntime) -> Result<(), Fail> {
     let mut store = store(alloc)?;
     let mut first = accessed(&mut store, alloc)?;
     let mut second = accessed(&mut store, alloc)?;
-    state(&mut store, &mut first, alloc, EXCSQLIMM, b"UPDATE T SET V = 'B' WHERE K = 1")?;
-    state(&mut store, &mut second, alloc, EXCSQLIMM, b"DELETE FROM T WHERE K = 1")?;
-    state(&mut store, &mut second, alloc, EXCSQLIMM, b"INSERT INTO T VALUES (2, 'C')")?;
+    state(
+        &mut store,
+        &mut first,
+        alloc,
+        EXCSQLIMM,
+        b"UPDATE T SET V = 'B' WHERE K = 1",
+    )?;
+    state(
+        &mut store,
+        &mut second,
+        alloc,
+        EXCSQLIMM,
+        b"DELETE FROM T WHERE K = 1",
+    )?;
+    state(
+        &mut store,
+        &mut second,
+        alloc,
+        EXCSQLIMM,
+        b"INSERT INTO T VALUES (2, 'C')",
+    )?;
     let replies = ask(&mut store, &mut first, alloc, RDBCMM, &COMMIT)?;
-    assert!(rt; are_two(&replies, &granted(1), &DONE), "the first is committed");
+    assert!(rt;
+        are_two(&replies, &granted(1), &DONE),
+        "the first is committed"
+    );
     let replies = ask(&mut store, &mut second, alloc, RDBCMM, &COMMIT)?;
     let conflict = card(&[0xFF, 0xFF, 0xFC, 0x71, 0xF4, 0xF0, 0xF0, 0xF0, 0xF1]);
-    assert!(rt; are_two(&replies, &granted(2), &conflict), "the second is rolled back");
+    assert!(rt;
+        are_two(&replies, &granted(2), &conflict),
+        "the second is rolled back"
+    );
     let rows = store.rows()?;
     assert_eq!(rt; (rows.len(), store.commits()), (1, 1));
     let row = rows.get(0).ok_or("a row")?;
@@ -299,11 +434,24 @@ fn cursors_are_fetched(rt: HostRuntime) -> Result<(), Fail> {
     let alloc = rt.alloc();
     let mut store = store(alloc)?;
     let mut unit = accessed(&mut store, alloc)?;
-    state(&mut store, &mut unit, alloc, EXCSQLIMM, b"INSERT INTO T VALUES (7, 'b')")?;
+    state(
+        &mut store,
+        &mut unit,
+        alloc,
+        EXCSQLIMM,
+        b"INSERT INTO T VALUES (7, 'b')",
+    )?;
     let mut objects = Sequence::new(alloc);
     objects.push(text_object(alloc, [0x24, 0x50], b"WITH HOLD")?)?;
     objects.push(text_object(alloc, [0x24, 0x14], b"SELECT K, V FROM T")?)?;
-    exec(&mut store, &mut unit, alloc, PRPSQLSTT, &section(PRPSQLSTT), objects)?;
+    exec(
+        &mut store,
+        &mut unit,
+        alloc,
+        PRPSQLSTT,
+        &section(PRPSQLSTT),
+        objects,
+    )?;
     let not_prepared = card(&[0xFF, 0xFF, 0xFD, 0xFE, 0xF2, 0xF6, 0xF5, 0xF0, 0xF1]);
     let open_already = card(&[0xFF, 0xFF, 0xFE, 0x0A, 0xF2, 0xF4, 0xF5, 0xF0, 0xF2]);
     let end = card(&NOT_FOUND);
@@ -331,19 +479,62 @@ fn cursors_are_fetched(rt: HostRuntime) -> Result<(), Fail> {
     let commit = COMMIT.as_slice();
     let roll_back = ROLL_BACK.as_slice();
     for (code, body, wanted, behind) in [
-        (OPNQRY, section(OPNQRY).as_slice(), opened.as_slice(), [].as_slice()),
-        (OPNQRY, section(OPNQRY).as_slice(), open_already.as_slice(), [].as_slice()),
-        (CNTQRY, section(CNTQRY).as_slice(), first.as_slice(), [].as_slice()),
+        (
+            OPNQRY,
+            section(OPNQRY).as_slice(),
+            opened.as_slice(),
+            [].as_slice(),
+        ),
+        (
+            OPNQRY,
+            section(OPNQRY).as_slice(),
+            open_already.as_slice(),
+            [].as_slice(),
+        ),
+        (
+            CNTQRY,
+            section(CNTQRY).as_slice(),
+            first.as_slice(),
+            [].as_slice(),
+        ),
         (RDBCMM, commit, held(1).as_slice(), DONE.as_slice()),
-        (OPNQRY, section(OPNQRY).as_slice(), not_prepared.as_slice(), [].as_slice()),
-        (CNTQRY, section(CNTQRY).as_slice(), second.as_slice(), [].as_slice()),
-        (CNTQRY, section(CNTQRY).as_slice(), ended.as_slice(), end.as_slice()),
-        (CNTQRY, section(CNTQRY).as_slice(), not_open.as_slice(), [].as_slice()),
-        (CLSQRY, section(CLSQRY).as_slice(), not_open.as_slice(), [].as_slice()),
+        (
+            OPNQRY,
+            section(OPNQRY).as_slice(),
+            not_prepared.as_slice(),
+            [].as_slice(),
+        ),
+        (
+            CNTQRY,
+            section(CNTQRY).as_slice(),
+            second.as_slice(),
+            [].as_slice(),
+        ),
+        (
+            CNTQRY,
+            section(CNTQRY).as_slice(),
+            ended.as_slice(),
+            end.as_slice(),
+        ),
+        (
+            CNTQRY,
+            section(CNTQRY).as_slice(),
+            not_open.as_slice(),
+            [].as_slice(),
+        ),
+        (
+            CLSQRY,
+            section(CLSQRY).as_slice(),
+            not_open.as_slice(),
+            [].as_slice(),
+        ),
         (RDBRLLBCK, roll_back, held(2).as_slice(), DONE.as_slice()),
     ] {
         let replies = ask(&mut store, &mut unit, alloc, code, body)?;
-        assert!(rt; are_two(&replies, wanted, behind), "what a cursor is answered");
+        assert!(rt;
+            are_two(&replies, wanted, behind),
+            "what a cursor is answered"
+        );
     }
     Ok(())
 }
@@ -364,16 +555,32 @@ fn registers_are_told(rt: HostRuntime) -> Result<(), Fail> {
     let mut store = store(alloc)?;
     let mut unit = accessed(&mut store, alloc)?;
     state(&mut store, &mut unit, alloc, EXCSQLSET, b"SET R10 = 'a'")?;
-    state(&mut store, &mut unit, alloc, EXCSQLSET, b"SET CURRENT SCHEMA = 'S11'")?;
+    state(
+        &mut store,
+        &mut unit,
+        alloc,
+        EXCSQLSET,
+        b"SET CURRENT SCHEMA = 'S11'",
+    )?;
     let told = ask(&mut store, &mut unit, alloc, RDBCMM, &COMMIT)?;
     let mut other = accessed(&mut store, alloc)?;
     let mut objects = Sequence::new(alloc);
     objects.push(text_object(alloc, [0x24, 0x14], b"SET CURRENT SCHEMA = 'S11'")?)?;
     objects.push(text_object(alloc, [0x24, 0x14], b"SET R10 = 'a'")?)?;
-    exec(&mut store, &mut other, alloc, EXCSQLSET, &section(EXCSQLSET), objects)?;
+    exec(
+        &mut store,
+        &mut other,
+        alloc,
+        EXCSQLSET,
+        &section(EXCSQLSET),
+        objects,
+    )?;
     let again = ask(&mut store, &mut other, alloc, RDBCMM, &COMMIT)?;
     assert_eq!(rt; told.as_slice(), again.as_slice());
-    assert!(rt; told.as_slice().strip_suffix(SETS.as_slice()).is_some(), "in their order");
+    assert!(rt;
+        told.as_slice().strip_suffix(SETS.as_slice()).is_some(),
+        "in their order"
+    );
     Ok(())
 }
 

@@ -54,13 +54,13 @@ impl Model for StoreUnit {
     ghost use Rattle.group_store.specs.Unit.{AreRegisters};
 
     ghost view = { λ u. record {
-        stage = u.stage;
-        user = u.user;
-        typdef = u.typdef;
-        registers = u.registers.entries;
-        writes = u.writes.entries;
-        prepared = u.prepared.entries;
-        cursors = u.cursors.entries;
+      stage = u.stage;
+      user = u.user;
+      typdef = u.typdef;
+      registers = u.registers.entries;
+      writes = u.writes.entries;
+      prepared = u.prepared.entries;
+      cursors = u.cursors.entries;
     } };
 
     ghost invariant = { λ u. AreRegisters u.registers.entries };
