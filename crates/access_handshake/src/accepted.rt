@@ -1,7 +1,7 @@
 ghost use Rattle.std.specs.Prelude.{◌≡◌, IfOk};
 ghost use Rattle.access_handshake.specs.Accepted.{accepted_of};
 
-use crate::parameter::parameter;
+use crate::parameter::find_parameter;
 use ddm_codepoints::code_point::{PRDID, TYPDEFNAM, TYPDEFOVR};
 use ddm_codepoints::{TypDef, typdef_of};
 use link_ends::{NoMemory, Octets};
@@ -23,16 +23,16 @@ pub struct Accepted {
 pub fn read_accepted(alloc: Global, params: &[u8]) -> Result<Option<Accepted>, NoMemory>
     ensures { IfOk result (λ accepted. accepted ≡ accepted_of params.now) }
 {
-    let Some(prdid) = parameter(params, PRDID) else {
+    let Some(prdid) = find_parameter(params, PRDID) else {
         return Ok(None);
     };
-    let Some(typdefnam) = parameter(params, TYPDEFNAM) else {
+    let Some(typdefnam) = find_parameter(params, TYPDEFNAM) else {
         return Ok(None);
     };
     let Some(typdef) = typdef_of(typdefnam) else {
         return Ok(None);
     };
-    let Some(typdefovr) = parameter(params, TYPDEFOVR) else {
+    let Some(typdefovr) = find_parameter(params, TYPDEFOVR) else {
         return Ok(None);
     };
     Ok(Some(Accepted {

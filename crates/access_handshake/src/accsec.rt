@@ -1,7 +1,7 @@
 ghost use Rattle.std.specs.Prelude.{◌≡◌, IsTrue, IfOk};
 ghost use Rattle.access_handshake.specs.Accsec.{has_secmec, is_known_secmec, accsecrd_chosen, accsecrd_offer, answer_to_secmec, accsec_answer};
 
-use crate::parameter::parameter;
+use crate::parameter::find_parameter;
 use byteorder::{BigEndian, ByteOrder};
 use ddm_codepoints::code_point::{ACCSECRD, SECMEC};
 use ddm_codepoints::value::{USER_ALONE, USER_AND_PASSWORD};
@@ -21,7 +21,7 @@ pub enum AccsecAnswer {
 pub fn has_secmec(params: &[u8]) -> bool
     ensures { result ≡ has_secmec params.now }
 {
-    match parameter(params, SECMEC) {
+    match find_parameter(params, SECMEC) {
         Some(data) => data.len() >= 2,
         None => false,
     }
@@ -33,7 +33,7 @@ pub fn answer_accsec(alloc: Global, params: &[u8]) -> Result<AccsecAnswer, NoMem
     requires { IsTrue (has_secmec params.now) }
     ensures { IfOk result (λ answer. answer ≡ accsec_answer params.now) }
 {
-    let data = parameter(params, SECMEC).unwrap();
+    let data = find_parameter(params, SECMEC).unwrap();
     answer_secmec(alloc, BigEndian::read_u16(data))
 }
 

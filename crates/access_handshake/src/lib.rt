@@ -16,6 +16,7 @@ pub use accepted::{Accepted, read_accepted};
 pub use access::{Access, access_chain, accsec_command, hello};
 pub use accsec::{AccsecAnswer, answer_accsec, has_secmec};
 pub use excsat::{ExcsatAnswer, answer_excsat, answer_is_short};
+pub use parameter::find_parameter;
 pub use rdbnam::{answer_rdbnam, has_rdbnam};
 pub use stage::{Mark, Stage, next_stage};
 

@@ -6,7 +6,7 @@ use ddm_objects::find;
 
 /// The data of the first parameter with this code point.
 #[tactic(auto, unfolding(crate::specs::Parameter::parameter))]
-pub(crate) fn parameter(params: &[u8], code: u16) -> Option<&[u8]>
+pub fn find_parameter(params: &[u8], code: u16) -> Option<&[u8]>
     ensures found { option_copied result ≡ parameter params.now code }
     ensures within { IfSome result (λ bytes. length bytes.now + 4 ≤ length params.now) }
 {

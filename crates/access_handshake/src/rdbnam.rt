@@ -2,7 +2,7 @@ ghost use Rattle.std.specs.Prelude.{◌≡◌, ◌≤◌, IsTrue, IfOk, length};
 ghost use Rattle.access_handshake.specs.Rdbnam.{has_rdbnam, is_name, rdbnfnrm_object, rdbnam_answer};
 
 use crate::object::put_object;
-use crate::parameter::parameter;
+use crate::parameter::find_parameter;
 use ddm_codepoints::code_point::{RDBNAM, RDBNFNRM, SVRCOD};
 use ddm_codepoints::value::ERROR;
 use ddm_codepoints::{padded_name, trimmed};
@@ -14,7 +14,7 @@ use std::alloc::Global;
 pub fn has_rdbnam(params: &[u8]) -> bool
     ensures { result ≡ has_rdbnam params.now }
 {
-    parameter(params, RDBNAM).is_some()
+    find_parameter(params, RDBNAM).is_some()
 }
 
 /// RDBNFNRM with the RDBNAM as it is asked: None exactly where it is this name, with spaces behind it or without. Of a
@@ -25,7 +25,7 @@ pub fn answer_rdbnam(alloc: Global, params: &[u8], rdb: &[u8]) -> Result<Option<
     requires name { length rdb.now ≤ 18 }
     ensures { IfOk result (λ answer. answer ≡ rdbnam_answer params.now rdb.now) }
 {
-    let asked = parameter(params, RDBNAM).unwrap();
+    let asked = find_parameter(params, RDBNAM).unwrap();
     if is_name(asked, rdb) {
         Ok(None)
     } else {

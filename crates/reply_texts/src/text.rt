@@ -14,7 +14,7 @@ pub(crate) fn is_text(ascii: &[u8]) -> bool
 }
 
 /// Puts a text as data of this type definition have it in its place.
-pub(crate) fn encode(text: &mut [u8], typdef: TypDef)
+pub fn encode(text: &mut [u8], typdef: TypDef)
     ensures { text.new ≡ codes_in typdef text.old }
 {
     for byte in text.iter_mut() {
@@ -23,7 +23,7 @@ pub(crate) fn encode(text: &mut [u8], typdef: TypDef)
 }
 
 /// Puts the text that bytes of data of this type definition are in their place, in ASCII.
-pub(crate) fn decode(bytes: &mut [u8], typdef: TypDef)
+pub fn decode(bytes: &mut [u8], typdef: TypDef)
     ensures { bytes.new ≡ map (ascii_in typdef) bytes.old }
 {
     for byte in bytes.iter_mut() {
@@ -41,7 +41,7 @@ fn code_in(character: u8, typdef: TypDef) -> u8
 }
 
 /// Whether each of these bytes of data is a character.
-pub(crate) fn are_characters_in(bytes: &[u8], typdef: TypDef) -> bool
+pub fn are_characters_in(bytes: &[u8], typdef: TypDef) -> bool
     ensures { result ≡ list_all (is_character_in typdef) bytes.now }
 {
     bytes.iter().all(|byte| is_character_in(*byte, typdef))

@@ -34,6 +34,7 @@ pub use release::ask_release;
 pub use reply::{is_object_of, tells_error};
 pub use segment::{Segment, SegmentList, cut};
 pub use share::share_command;
+pub use statement::sql_text;
 pub use stripped::{Stripped, strip};
 pub use write::write_chain;
 

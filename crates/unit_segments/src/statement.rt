@@ -1,4 +1,4 @@
-ghost use Rattle.std.specs.Prelude.{◌≡◌, ◌+◌, ◌≤◌, length, option_map, IfSome};
+ghost use Rattle.std.specs.Prelude.{◌≡◌, ◌+◌, ◌≤◌, length, option_copied, option_map, IfSome};
 ghost use Rattle.unit_segments.specs.Statement.{text_at, sized_text, statement_of};
 ghost use Rattle.unit_segments.specs.SeenStatement.{seen_text, seen_statement, text_length};
 
@@ -25,6 +25,17 @@ pub(crate) struct Text<'a> {
 pub(crate) struct Statement<'a> {
     pub(crate) text: &'a [u8],
     pub(crate) size: usize,
+}
+
+/// The text that counts of the data of SQLSTT or SQLATTR: the first of two texts, or the second where that isn't there (DRDA,
+/// volume 3, SQLSTT, SQLATTR). None where the data are no two texts.
+pub fn sql_text(bytes: &[u8]) -> Option<&[u8]>
+    ensures { option_copied result ≡ option_map (λ statement. statement.text) (statement_of bytes.now) }
+{
+    match statement_of(bytes) {
+        Some(statement) => Some(statement.text),
+        None => None,
+    }
 }
 
 /// The statement that the data of SQLSTT are: two texts, of which the first counts where both are there (DRDA, volume 3,
