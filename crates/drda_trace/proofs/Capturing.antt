@@ -1,12 +1,14 @@
 -- What is left to read of a capture, added to what was read so far, is the whole.
-use Rattle.std.proofs.Common.{◌≡◌, ℕ, ◌+◌, ◌<◌, ◌≤◌, Bool, true, false, List, [], ◌∷◌, ◌++◌, cond, length, drop, Option, Some, None, Result, Ok, Err, refl, ap, sym, ◌∙◌, arith}
+use Rattle.std.proofs.Common.{◌≡◌, ℕ, ◌+◌, ◌<◌, ◌≤◌, Bool, true, false, List, [], ◌∷◌, ◌++◌, cond, length}
+use Rattle.std.proofs.Common.{drop, Option, Some, None, Result, Ok, Err, refl, ap, sym, ◌∙◌, arith}
 use Rattle.std.specs.Prelude.{option_map, IfOk}
 use Rattle.std.proofs.lemmas.Bool.{lt-ltb, le-ltb}
 use Rattle.std.proofs.lemmas.List.{nil_from_length}
 use Rattle.hex_lines.specs.Lines.{lines_of, most_bytes, is_skipped}
 use Rattle.hex_lines.specs.Hex.{bytes_of_hex}
 use Rattle.drda_trace.specs.declared.capture.Capture.{Capture}
-use Rattle.drda_trace.specs.Capture.{after_line, line_added, lines_added, capture_of, empty_capture, is_from, requester_mark, server_mark, with_requester, with_server}
+use Rattle.drda_trace.specs.Capture.{after_line, line_added, lines_added, capture_of, empty_capture, is_from}
+use Rattle.drda_trace.specs.Capture.{requester_mark, server_mark, with_requester, with_server}
 
 -- the lines of the rest, the first of which has this number, added to the capture, say what all lines say
 pub record ReadSoFar (number : ℕ) (capture : Capture) (rest text : List ℕ) : Type 0 where

@@ -1,5 +1,6 @@
 -- Reading the DSSs of a side one after another.
-use Rattle.std.proofs.Common.{◌≡◌, ℕ, Bool, true, false, cond, List, [], ◌∷◌, ◌++◌, drop, Option, Some, None, Result, Ok, Err, refl, ap, sym, ◌∙◌, subst, append_assoc}
+use Rattle.std.proofs.Common.{◌≡◌, ℕ, Bool, true, false, cond, List, [], ◌∷◌, ◌++◌, drop, Option}
+use Rattle.std.proofs.Common.{Some, None, Result, Ok, Err, refl, ap, sym, ◌∙◌, subst, append_assoc}
 use Rattle.std.proofs.Common.{append-nil}
 use Rattle.std.specs.Prelude.{slice_get, is_ok}
 use Rattle.std.specs.List.{take_while}
@@ -78,7 +79,8 @@ answer_is (Syntax at err corr) stated is known = is
 answer_is (TooMany at corr) stated is known = is
 answer_is NoMemory stated is known = absurd (known refl)
 
-requests_are : (a b : List (List Command)) (x y : Ending) → a ≡ b → x ≡ y → ◌≡◌ {A = RequestStream} (record { chains = a; ending = x }) (record { chains = b; ending = y })
+requests_are : (a b : List (List Command)) (x y : Ending) → a ≡ b → x ≡ y
+    → ◌≡◌ {A = RequestStream} (record { chains = a; ending = x }) (record { chains = b; ending = y })
 requests_are a b x y e f =
     ap (λ (c : List (List Command)). record { chains = c; ending = x }) e ∙ ap (λ (z : Ending). record { chains = b; ending = z }) f
 
@@ -122,7 +124,8 @@ requests_end v now old len front chain begun ending last rest same places chains
 
 -- ---- chains of replies
 
-replies_are : (a b : List (List Placed)) (x y : Ending) → a ≡ b → x ≡ y → ◌≡◌ {A = ReplyStream} (record { chains = a; ending = x }) (record { chains = b; ending = y })
+replies_are : (a b : List (List Placed)) (x y : Ending) → a ≡ b → x ≡ y
+    → ◌≡◌ {A = ReplyStream} (record { chains = a; ending = x }) (record { chains = b; ending = y })
 replies_are a b x y e f =
     ap (λ (c : List (List Placed)). record { chains = c; ending = x }) e ∙ ap (λ (z : Ending). record { chains = b; ending = z }) f
 
@@ -141,7 +144,8 @@ stops_at_body v len front begun whole rest placed fault ending e bad chains bodi
     let others : Ending = ending_of len v in
     replies_are front (chains_after [] (take_while has_object v.whole)) ending (bodies_ending v.whole others)
     (sym (append-nil front)
-    ∙ sym (ap (λ (w : List Placed). front ++ chains_after begun w) (none_while whole rest placed e (ap (λ (r : Result Member ObjFault). is_ok r) bad))) ∙ chains)
+    ∙ sym (ap (λ (w : List Placed). front ++ chains_after begun w) (none_while whole rest placed e (ap (λ
+    (r : Result Member ObjFault). is_ok r) bad))) ∙ chains)
     (told (bodies_ending rest others)
     ∙ sym (ap (λ (w : List Placed). bodies_ending w others) e
     ∙ ap (λ (r : Result Member ObjFault). object_ending placed r (bodies_ending rest others)) bad) ∙ bodies others)

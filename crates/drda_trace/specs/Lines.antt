@@ -16,7 +16,8 @@ use Rattle.unit_segments.specs.Told.{told}
 use Rattle.drda_trace.specs.declared.ending.Ending.{Ending}
 use Rattle.drda_trace.specs.declared.ending.Ending.TheVariants as ends
 use Rattle.drda_trace.specs.declared.line.Line.{Line}
-use Rattle.drda_trace.specs.declared.line.Line.TheVariants.{Chain, Request, Object, Reply, Triplet, TripletFault as BadTriplet, Number, Unanswered, Extra, Fault, Rest}
+use Rattle.drda_trace.specs.declared.line.Line.TheVariants.{Chain, Request, Object, Reply, Triplet, TripletFault as BadTriplet}
+use Rattle.drda_trace.specs.declared.line.Line.TheVariants.{Number, Unanswered, Extra, Fault, Rest}
 use Rattle.drda_trace.specs.declared.requests.RequestStream.{RequestStream}
 use Rattle.drda_trace.specs.declared.replies.ReplyStream.{ReplyStream}
 

@@ -238,7 +238,8 @@ joined_all bytes =
 pub all_triplets : (bytes : List ℕ) → AreBytes bytes → (triplets_of bytes).fault ≡ None → AreTriplets (triplets_of bytes).triplets bytes
 all_triplets bytes are none =
     let reads = reads_all bytes in
-    let empty : reads.rest ≡ [] = subst (λ (f : Option TripletFault). EndsAs (length (flat_map spelling (triplets_of bytes).triplets)) reads.rest f) none (ends_all bytes) in
+    let empty : reads.rest ≡ [] =
+    subst (λ (f : Option TripletFault). EndsAs (length (flat_map spelling (triplets_of bytes).triplets)) reads.rest f) none (ends_all bytes) in
     record {
       each = reads.each are;
       all = reads.parts ∙ ap (λ (xs : List ℕ). flat_map spelling (triplets_of bytes).triplets ++ xs) empty

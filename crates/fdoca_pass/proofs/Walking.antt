@@ -13,7 +13,8 @@ triplets_left scan = triplets_from scan.at scan.left
 
 -- what one triplet of a walk makes of it
 pub record Steps (scan : Scan) (triplet : Described) : Type 0 where
-  pub triplets : triplets_left scan ≡ record { triplets = triplet ∷ (triplets_left (after_next scan)).triplets; fault = (triplets_left (after_next scan)).fault }
+  pub triplets : triplets_left scan
+      ≡ record { triplets = triplet ∷ (triplets_left (after_next scan)).triplets; fault = (triplets_left (after_next scan)).fault }
   pub smaller : (2 + length triplet.bytes) + length (after_next scan).left ≤ length scan.left
 
 abbrev next_is : Result Described TripletFault → Option (Result Described TripletFault)
@@ -40,7 +41,8 @@ steps_with place b bytes triplet (Ok found) is e =
     record {
       triplets = triplets
           ∙ ap (λ (s : Scan). record { triplets = found.triplet ∷ (triplets_left s).triplets; fault = (triplets_left s).fault }) (sym after)
-          ∙ ap (λ (m : Described). record { triplets = m ∷ (triplets_left (after_next scan)).triplets; fault = (triplets_left (after_next scan)).fault }) (sym same);
+          ∙ ap (λ (m : Described).
+          record { triplets = m ∷ (triplets_left (after_next scan)).triplets; fault = (triplets_left (after_next scan)).fault }) (sym same);
       smaller = omega (arith, ap (λ (m : Described). length m.bytes) same, ap (λ (s : Scan). length s.left) after, size);
     }
 steps_with place b bytes triplet (Err fault) is e = absurd cc

@@ -28,7 +28,8 @@ use Rattle.unit_segments.specs.Command.{data_of}
 use Rattle.unit_segments.specs.Limit.{most_chain_bytes}
 use Rattle.unit_segments.specs.Accepts.{is_data}
 use Rattle.group_store.specs.Unit.{UnitState, nothing_at, checked_as, accessed_as}
-use Rattle.group_store.specs.Reply.{Answered, says, refuses, message, reply_data, unknown_user, wrong_password, secchkrm_object, accrdbrm_object, valnsprm_object}
+use Rattle.group_store.specs.Reply.{Answered, says, refuses, message, reply_data, unknown_user, wrong_password}
+use Rattle.group_store.specs.Reply.{secchkrm_object, accrdbrm_object, valnsprm_object}
 
 -- ---- EXCSAT
 

@@ -96,7 +96,8 @@ opnqryrm_object = canonical_object point.opnqryrm (severity info)
 -- FD:OCA: a group of a number of four bytes and a text of at most 200, and rows of it
 unfoldable pub qrydsc_object : List ℕ
 qrydsc_object =
-    canonical_object point.qrydsc (0x09 ∷ 0x76 ∷ 0xD0 ∷ 0x02 ∷ 0x00 ∷ 0x04 ∷ 0x3F ∷ 0x00 ∷ 0xC8 ∷ 0x09 ∷ 0x71 ∷ 0xE0 ∷ 0x54 ∷ 0x00 ∷ 0x01 ∷ 0xD0 ∷ 0x00 ∷ 0x01 ∷ [])
+    canonical_object point.qrydsc (0x09 ∷ 0x76 ∷ 0xD0 ∷ 0x02 ∷ 0x00 ∷ 0x04 ∷ 0x3F ∷ 0x00 ∷ 0xC8 ∷ 0x09 ∷ 0x71 ∷ 0xE0 ∷ 0x54 ∷ 0x00 ∷ 0x01 ∷ 0xD0
+    ∷ 0x00 ∷ 0x01 ∷ [])
 
 -- A row: the null indicators of its SQLCARD and of the row, its key, and behind a null indicator its text with its length.
 abbrev pub qrydta_object : ℕ × List ℕ → List ℕ

@@ -28,7 +28,8 @@ impl Store {
         unit: &mut StoreUnit,
         command: &Command,
     ) -> Result<DssList, NoMemory>
-        ensures said { IfOk result (λ replies. replies ≡ dsss_of command.now.corr (excsqlimm_answered self.now.rows self.now.commits unit.old command.now).said) }
+        ensures said { IfOk result (λ replies. replies
+            ≡ dsss_of command.now.corr (excsqlimm_answered self.now.rows self.now.commits unit.old command.now).said) }
         ensures unit { OnOk result (unit.new ≡ (excsqlimm_answered self.now.rows self.now.commits unit.old command.now).unit) }
     {
         let alloc = unit.alloc;
@@ -125,7 +126,8 @@ fn has_statement(objects: &[Octets]) -> bool
 /// Runs the SET statements that these objects have, in order, up to the first that is none.
 fn set_all(unit: &mut StoreUnit, objects: &[Octets]) -> Result<SqlOutcome, NoMemory>
     ensures outcome { IfOk result (λ outcome. outcome ≡ (after_sets unit.old.typdef (data_with sqlstt objects.now) unit.old.registers).outcome) }
-    ensures unit { OnOk result (unit.new ≡ record unit.old { registers = (after_sets unit.old.typdef (data_with sqlstt objects.now) unit.old.registers).registers }) }
+    ensures unit { OnOk result (unit.new
+        ≡ record unit.old { registers = (after_sets unit.old.typdef (data_with sqlstt objects.now) unit.old.registers).registers }) }
 {
     let mut left = objects;
     while let Some((body, rest)) = left.split_first() {

@@ -1,6 +1,7 @@
 ghost use Rattle.std.specs.Prelude.{◌≡◌, option_map, option_copied, codes, IfOk, IfSome};
 ghost use Rattle.reply_texts.specs.Text.{codes_in};
-ghost use Rattle.group_store.specs.Statement.{is_object_with, first_data, text_of, statement_in, first_statement, is_hold, is_held, last_two, section_of, IsSound};
+ghost use Rattle.group_store.specs.Statement.{is_object_with, first_data, text_of, statement_in, first_statement};
+ghost use Rattle.group_store.specs.Statement.{is_hold, is_held, last_two, section_of, IsSound};
 
 use access_handshake::find_parameter;
 use byteorder::{BigEndian, ByteOrder};

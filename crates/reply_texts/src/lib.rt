@@ -12,8 +12,8 @@ pub use closing::{agnprm_dss, ended_dss, limit_dss, memory_dss, syntax_dss, synt
 pub use laws::written_card_is_read;
 pub use rdb_name::RdbName;
 pub use reply::{abnuow, cmdnsp, enduow, prccnv};
-pub use text::{are_characters_in, decode, encode};
 pub use sqlcard::{Card, Sqlca, read_sqlcard, write_sqlcard};
+pub use text::{are_characters_in, decode, encode};
 
 #[cfg(test)]
 mod tests;

@@ -57,7 +57,8 @@ unfolding begun
 dialled_bytes t stage mechanism access log again segment is =
     ap (λ (s : Stage). map bytes_of (needed s t.name stage (given mechanism access) log (again_for segment again) ++ work segment)) is
     ∙ all_bytes (silent t.name stage (given mechanism access) log (again_for segment again) true) segment
-    (handshake t.name stage (given mechanism access) log (again_for segment again) true) (silent_bytes t.name stage (given mechanism access) log (again_for segment again) true)
+    (handshake t.name stage (given mechanism access) log (again_for segment again) true) (silent_bytes t.name stage (given mechanism access) log
+    (again_for segment again) true)
 
 pub idle_bytes : (t : Talking) (stage : Stage) (mechanism : ℕ) (access : Option Access) (log : List Register) (again : List Command)
     (segment : Option (List Command)) → t.stage ≡ Attached
@@ -67,4 +68,5 @@ unfolding begun
 idle_bytes t stage mechanism access log again segment is =
     ap (λ (s : Stage). map bytes_of (needed s t.name stage (given mechanism access) log (again_for segment again) ++ work segment)) is
     ∙ all_bytes (silent t.name stage (given mechanism access) log (again_for segment again) false) segment
-    (handshake t.name stage (given mechanism access) log (again_for segment again) false) (silent_bytes t.name stage (given mechanism access) log (again_for segment again) false)
+    (handshake t.name stage (given mechanism access) log (again_for segment again) false) (silent_bytes t.name stage (given mechanism access) log
+    (again_for segment again) false)

@@ -145,7 +145,12 @@ with_pieces p q t =
     = ap (λ (w : View). record w { whole = [] }) (fed_behind t.reader p q) in
     let count : further_on (further_on t.unread (length p)) (length q) ≡ further_on t.unread (length (p ++ q))
     = unread_twice t.unread (length p) (length q) ∙ ap (further_on t.unread) (sym (length-append p q)) in
-    ap (λ (w : View). record t { reader = w; replies = t.replies ++ map (λ p. p.dss) v.whole; unread = further_on (further_on t.unread (length p)) (length q) }) same
+    ap (λ (w : View). record t {
+      reader = w;
+      replies = t.replies ++ map (λ p. p.dss) v.whole;
+      unread = further_on (further_on t.unread (length p))
+          (length q);
+    }) same
     ∙ ap (λ (n : ℕ). record t { reader = record (fed t.reader (p ++ q)) { whole = [] }; replies = t.replies ++ map (λ p. p.dss) v.whole; unread = n }) count
 
 -- what the second piece is judged to be

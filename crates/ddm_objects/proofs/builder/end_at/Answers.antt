@@ -9,7 +9,8 @@ returns-then-size-le-GREATEST_SHORT-clause-ok c =
 
 pub returns-in_ok-extend_from_slice-clause-ok : goal.returns-in_ok-extend_from_slice-clause-ok
 returns-in_ok-extend_from_slice-clause-ok c =
-    rw c.extend_from_slice.new.self.ok.0 (long_written c.args.object.code c.args.object.at c.args.bytes.now.items c.extend_from_slice.new.self.items (0 ∷ 0 ∷ 0 ∷ 0 ∷ [])
+    rw c.extend_from_slice.new.self.ok.0 (long_written c.args.object.code c.args.object.at c.args.bytes.now.items c.extend_from_slice.new.self.items
+    (0 ∷ 0 ∷ 0 ∷ 0 ∷ [])
     c.as_mut_slice-else-size-le-GREATEST_SHORT.result.now c.write_long.new.object
     c.in_ok-extend_from_slice.ensures.items refl c.as_mut_slice-else-size-le-GREATEST_SHORT.ensures.value c.requires.begun (omega (
       arith,

@@ -12,14 +12,16 @@ returns-then-not-contains c =
     let is : has_number c.args.commands.now corr ≡ c.contains.result = sym (c.in_ok-numbers.ensures corr) ∙ sym c.contains.ensures in
     let why : (has_number c.args.commands.now corr ≡ false) ⊎ (corr < c.loop-reply.before) =
     ⊎_elim (λ none. inl (is ∙ none)) (λ falls. inr falls.1) c.then-not-contains.either in
-    sym (fits_not c.args.commands.now c.loop-reply.before c.loop-reply.reply-index c.args.replies.now c.reply-item.result c.loop-reply-test.true c.reply-item.is why)
+    sym (fits_not c.args.commands.now c.loop-reply.before c.loop-reply.reply-index c.args.replies.now c.reply-item.result c.loop-reply-test.true
+    c.reply-item.is why)
     ∙ c.loop-reply.invariant
 
 pub loop-reply-preserved : goal.loop-reply-preserved
 loop-reply-preserved c =
     let corr = c.reply-item.result.dss.corr in
     let has = sym (c.in_ok-numbers.ensures corr) ∙ sym c.contains.ensures ∙ c.if-not-contains.false in
-    sym (fits_on c.args.commands.now c.loop-reply.before c.loop-reply.reply-index c.args.replies.now c.reply-item.result c.loop-reply-test.true c.reply-item.is has
+    sym (fits_on c.args.commands.now c.loop-reply.before c.loop-reply.reply-index c.args.replies.now c.reply-item.result c.loop-reply-test.true
+    c.reply-item.is has
     c.if-corr-before.false) ∙ c.loop-reply.invariant
 
 pub returns : goal.returns

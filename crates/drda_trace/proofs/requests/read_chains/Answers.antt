@@ -12,8 +12,10 @@ loop-placed-preserved-in-Continue-1 c =
     let whole : old.whole ≡ c.in-Some.placed ∷ now.whole =
     first_taken old.whole c.in-Some.placed c.in-Some.ensures.first ∙ ap (λ (v : View). c.in-Some.placed ∷ v.whole) (sym rest) in
     record {
-      chains = ends_one c.loop-placed.chains c.push.new.self c.in-Ok-Some.chain c.loop-placed.chain_reader c.add.new.self old.whole now.whole c.in-Some.placed whole
-          (c.in-Ok-Some.ensures.answer ∙ ap comes_to c.in-Ok-Some.field-0-is) c.in-Ok-Some.ensures.after c.in_ok-push-in-Ok-Some.ensures.ok ∙ c.loop-placed.invariant.chains;
+      chains = ends_one c.loop-placed.chains c.push.new.self c.in-Ok-Some.chain c.loop-placed.chain_reader c.add.new.self old.whole now.whole
+          c.in-Some.placed whole
+          (c.in-Ok-Some.ensures.answer ∙ ap comes_to c.in-Ok-Some.field-0-is) c.in-Ok-Some.ensures.after c.in_ok-push-in-Ok-Some.ensures.ok
+          ∙ c.loop-placed.invariant.chains;
       begun = begun_on c.loop-placed.begun c.begun_with-begun.result old.whole now.whole c.in-Some.placed whole c.begun_with-begun.ensures
           ∙ c.loop-placed.invariant.begun;
       same = ap taken_all rest ∙ c.loop-placed.invariant.same;

@@ -14,7 +14,8 @@ invariant_of-self-2 c =
       code =
           c.args.code;
     }) c.self.inside.bytes.items (0 ∷ 0 ∷ 0 ∷ 0 ∷ []) c.extend_from_slice.new.self.items c.args.self.now
-    c.push.ensures.items c.in_ok-extend_from_slice.ensures.items (c.len-at.ensures ∙ c.self.inside.bytes.ok.0) refl c.self.view_is c.self.invariant.0 c.requires.room
+    c.push.ensures.items c.in_ok-extend_from_slice.ensures.items (c.len-at.ensures ∙ c.self.inside.bytes.ok.0) refl
+    c.self.view_is c.self.invariant.0 c.requires.room
 
 pub returns-clause-ok : goal.returns-clause-ok
 returns-clause-ok c =

@@ -15,7 +15,8 @@ returns-then-is_skipped c = line_skipped c.args.self.now c.args.line.now c.if-is
 
 pub returns-then-is_from : goal.returns-then-is_from
 returns-then-is_from c =
-    side_more c.push_hex.result c.args.self.now.requester c.push_hex.new.stream (λ (bytes : List ℕ). record { requester = bytes; server = c.args.self.now.server })
+    side_more c.push_hex.result c.args.self.now.requester c.push_hex.new.stream (λ
+    (bytes : List ℕ). record { requester = bytes; server = c.args.self.now.server })
     _ (line_added c.args.self.now c.args.line.now)
     (line_of_requester c.args.self.now c.args.line.now c.if-is_skipped.ensures c.if-is_from.ensures.from
     ∙ ap (λ (digits : List ℕ). option_map (with_requester c.args.self.now) (bytes_of_hex digits)) (sym (digits_are c.args.line.now))) c.push_hex.ensures
@@ -26,7 +27,8 @@ returns-then-is_from-2 c =
     (λ (bytes : List ℕ). record { requester = c.args.self.now.requester; server = bytes })
     _ (line_added c.args.self.now c.args.line.now)
     (line_of_server c.args.self.now c.args.line.now c.if-is_skipped.ensures c.if-is_from.ensures.from c.if-is_from-2.ensures.from
-    ∙ ap (λ (digits : List ℕ). option_map (with_server c.args.self.now) (bytes_of_hex digits)) (sym (digits_are c.args.line.now))) c.push_hex-then-is_from-2.ensures
+    ∙ ap (λ (digits : List ℕ). option_map (with_server c.args.self.now) (bytes_of_hex digits)) (sym
+    (digits_are c.args.line.now))) c.push_hex-then-is_from-2.ensures
 
 pub returns : goal.returns
 returns c =

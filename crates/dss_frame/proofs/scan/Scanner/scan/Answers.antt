@@ -72,7 +72,8 @@ loop-fault-preserved c =
     let here : take c.in-Reads.len (take (length c.args.bytes.now - c.loop-fault.begins) (drop c.loop-fault.begins c.args.bytes.now)) ≡ bytes =
     ap (λ (xs : List ℕ). take c.in-Reads.len xs) (take_rest c.args.bytes.now c.loop-fault.begins) in
     let size : length bytes ≡ c.in-Reads.len = omega (arith, length-take c.in-Reads.len (drop c.loop-fault.begins c.args.bytes.now), read.within) in
-    let more = reads_more _ _ c.args.bytes.now _ c.loop-fault.position _ c.loop-fault.whole.items _ c.in-Reads.len (dss_of bytes) c.loop-fault.invariant.reads_on step refl in
+    let more = reads_more _ _ c.args.bytes.now _ c.loop-fault.position _ c.loop-fault.whole.items _ c.in-Reads.len
+    (dss_of bytes) c.loop-fault.invariant.reads_on step refl in
     record {
       kept = rw c.in_ok-put_dss-in-Reads.ensures.put (Extends-append _ _ _ c.loop-fault.invariant.kept);
       reads_on = rw (c.in_ok-put_dss-in-Reads.ensures.put, c.after-position.ensures, here, size) more;
