@@ -68,11 +68,6 @@ impl Group for Small {
     ghost laws = { small_laws };
 }
 
-/// SRVLST with member 2 of weight 5 and member 1 of weight 0.
-const SRVLST: [u8; 14] = [
-    0x00, 0x0E, 0x24, 0x4E, 0x01, 0x02, 0x00, 0x02, 0x00, 0x05, 0x00, 0x01, 0x00, 0x00,
-];
-
 /// ACCRDB of SAMPLE with QTDSQL370, alone in its chain, with number 1.
 const ACCRDB_ALONE: [u8; 33] = [
     0x00, 0x21, 0xD0, 0x01, 0x00, 0x01, 0x00, 0x1B, 0x20, 0x01, 0x00, 0x0D, 0x00, 0x2F, 0xD8, 0xE3,
@@ -97,8 +92,37 @@ struct Outcome {
     dead: bool,
 }
 
+/// EXCSQLIMM before another command, with number 1.
+const EXCSQLIMM_CHAINED: [u8; 10] = [0x00, 0x0A, 0xD0, 0x41, 0x00, 0x01, 0x00, 0x04, 0x20, 0x0A];
+
+/// ACCRDBRM with the list of two members behind its parameters.
+const LISTED: Outcome = Outcome {
+    answered: &[
+        0x00, 0x41, 0xD0, 0x02, 0x00, 0x01, 0x00, 0x3B, 0x22, 0x01, 0x00, 0x06, 0x11, 0x49, 0x00,
+        0x00, 0x00, 0x0C, 0x11, 0x2E, 0xC7, 0xD9, 0xD7, 0xF0, 0xF1, 0xF0, 0xF1, 0xF0, 0x00, 0x0D,
+        0x00, 0x2F, 0xD8, 0xE3, 0xC4, 0xE2, 0xD8, 0xD3, 0xF3, 0xF7, 0xF0, 0x00, 0x0A, 0x00, 0x35,
+        0x00, 0x06, 0x11, 0x9C, 0x00, 0x25, 0x00, 0x0E, 0x24, 0x4E, 0x01, 0x02, 0x00, 0x02, 0x00,
+        0x05, 0x00, 0x01, 0x00, 0x00,
+    ],
+    ran: &[0x2001],
+    dead: false,
+};
+
+/// RSCLMTRM of a limit, with number 1.
+const PAST_LIMIT: Outcome = Outcome {
+    answered: &[
+        0x00, 0x10, 0xD0, 0x02, 0x00, 0x01, 0x00, 0x0A, 0x12, 0x33, 0x00, 0x06, 0x11, 0x49, 0x00,
+        0x08,
+    ],
+    ran: &[],
+    dead: true,
+};
+
+/// How many bytes a segment of a DSS has at most.
+const SEGMENT: usize = 32_767;
+
 /// Bytes that are taken, and what a conversation comes to that has no list to tell.
-const ROWS: [(&[u8], Outcome); 9] = [
+const ROWS: [(&[u8], Outcome); 11] = [
     // A statement alone; two in one chain, the first without a word on errors.
     (
         &EXCSQLIMM_ALONE,
@@ -215,14 +239,51 @@ const ROWS: [(&[u8], Outcome); 9] = [
             dead: true,
         },
     ),
+    // Access, of which no list is told.
+    (
+        &ACCRDB_ALONE,
+        Outcome {
+            answered: &[
+                0x00, 0x33, 0xD0, 0x02, 0x00, 0x01, 0x00, 0x2D, 0x22, 0x01, 0x00, 0x06, 0x11, 0x49,
+                0x00, 0x00, 0x00, 0x0C, 0x11, 0x2E, 0xC7, 0xD9, 0xD7, 0xF0, 0xF1, 0xF0, 0xF1, 0xF0,
+                0x00, 0x0D, 0x00, 0x2F, 0xD8, 0xE3, 0xC4, 0xE2, 0xD8, 0xD3, 0xF3, 0xF7, 0xF0, 0x00,
+                0x0A, 0x00, 0x35, 0x00, 0x06, 0x11, 0x9C, 0x00, 0x25,
+            ],
+            ran: &[0x2001],
+            dead: false,
+        },
+    ),
+    // A dead conversation takes nothing more.
+    (
+        &[
+            0x00, 0x05, 0xD0, 0x01, 0x00, 0x01, 0x00, 0x0A, 0xD0, 0x01, 0x00, 0x01, 0x00, 0x04,
+            0x20, 0x0A,
+        ],
+        Outcome {
+            answered: &[
+                0x00, 0x15, 0xD0, 0x02, 0x00, 0x00, 0x00, 0x0F, 0x12, 0x4C, 0x00, 0x06, 0x11, 0x49,
+                0x00, 0x08, 0x00, 0x05, 0x11, 0x4A, 0x01,
+            ],
+            ran: &[],
+            dead: true,
+        },
+    ),
 ];
 
-/// A conversation with a small group that has taken these pieces.
-fn took(alloc: Global, list: &ServerList, pieces: &[&[u8]]) -> Result<Conversation<Small>, Fail> {
+/// A conversation with a small group that has taken these bytes.
+fn took(alloc: Global, list: &ServerList, bytes: &[u8]) -> Result<Conversation<Small>, Fail> {
     let mut group = Small { alloc };
     let mut conversation = Conversation::new(alloc, &group, list)?;
-    for piece in pieces {
-        conversation.take(&mut group, piece)?;
+    conversation.take(&mut group, bytes)?;
+    Ok(conversation)
+}
+
+/// One that has taken them one by one.
+fn took_each(alloc: Global, list: &ServerList, bytes: &[u8]) -> Result<Conversation<Small>, Fail> {
+    let mut group = Small { alloc };
+    let mut conversation = Conversation::new(alloc, &group, list)?;
+    for byte in bytes {
+        conversation.take(&mut group, &[*byte])?;
     }
     Ok(conversation)
 }
@@ -234,29 +295,19 @@ fn is(conversation: &Conversation<Small>, outcome: Outcome) -> bool {
         && conversation.dead() == outcome.dead
 }
 
-/// A conversation that has taken these bytes one by one.
-fn took_bytes(alloc: Global, list: &ServerList, bytes: &[u8]) -> Result<Conversation<Small>, Fail> {
-    let mut group = Small { alloc };
-    let mut conversation = Conversation::new(alloc, &group, list)?;
-    for byte in bytes {
-        conversation.take(&mut group, &[*byte])?;
-    }
-    Ok(conversation)
+/// Whether bytes come to this, at once and one by one.
+fn come_to(alloc: Global, list: &ServerList, bytes: &[u8], outcome: Outcome) -> Result<bool, Fail> {
+    let at_once = took(alloc, list, bytes)?;
+    let one_by_one = took_each(alloc, list, bytes)?;
+    Ok(is(&at_once, outcome) && is(&one_by_one, outcome))
 }
 
-/// Bytes are answered the same at once and byte by byte; a dead conversation takes nothing more.
+/// Bytes are answered the same at once and byte by byte.
 #[test]
 fn answers_pieces(rt: HostRuntime) -> Result<(), Fail> {
     let list = ServerList::new();
     for (bytes, outcome) in ROWS {
-        assert!(rt; is(&took(rt.alloc(), &list, &[bytes])?, outcome));
-        let mut conversation = took_bytes(rt.alloc(), &list, bytes)?;
-        assert!(rt; is(&conversation, outcome));
-        if outcome.dead {
-            conversation.take(&mut Small { alloc: rt.alloc() }, &EXCSQLIMM_ALONE)?;
-            assert!(rt; is(&conversation, outcome));
-        }
-        conversation.drop_conversation();
+        assert!(rt; come_to(rt.alloc(), &list, bytes, outcome)?);
     }
     Ok(())
 }
@@ -275,51 +326,19 @@ fn two_members() -> ServerList {
     list
 }
 
-/// The parameters of ACCRDBRM behind these bytes, and others behind them.
-fn access(alloc: Global, front: &[u8], back: &[u8]) -> Result<Vec<u8>, Fail> {
-    let mut bytes = Vec::new(alloc);
-    bytes.extend_from_slice(front)?;
-    bytes.extend_from_slice(&ACCESS_GIVEN[4..])?;
-    bytes.extend_from_slice(back)?;
-    Ok(bytes)
-}
-
-/// Access is told with the list behind its parameters, unless the list has no rows; another reply never is.
+/// Access is told with the list behind its parameters.
 #[test]
 fn tells_its_list(rt: HostRuntime) -> Result<(), Fail> {
-    let front = [0x00, 0x33, 0xD0, 0x02, 0x00, 0x01, 0x00, 0x2D, 0x22, 0x01];
-    let plain = access(rt.alloc(), &front, &[])?;
-    let conversation = took(rt.alloc(), &ServerList::new(), &[&ACCRDB_ALONE])?;
-    assert!(rt; conversation.out() == plain.as_slice());
-    let front = [0x00, 0x41, 0xD0, 0x02, 0x00, 0x01, 0x00, 0x3B, 0x22, 0x01];
-    let listed = access(rt.alloc(), &front, &SRVLST)?;
-    let conversation = took(rt.alloc(), &two_members(), &[&ACCRDB_ALONE])?;
-    assert!(rt; conversation.out() == listed.as_slice());
-    let conversation = took(rt.alloc(), &two_members(), &[&EXCSQLIMM_ALONE])?;
-    assert!(rt; conversation.out() == DONE_ALONE.as_slice());
+    assert!(rt; come_to(rt.alloc(), &two_members(), &ACCRDB_ALONE, LISTED)?);
     Ok(())
 }
 
-/// RSCLMTRM of a limit, with number 2.
-const PAST_LIMIT: Outcome = Outcome {
-    answered: &[
-        0x00, 0x10, 0xD0, 0x02, 0x00, 0x02, 0x00, 0x0A, 0x12, 0x33, 0x00, 0x06, 0x11, 0x49, 0x00,
-        0x08,
-    ],
-    ran: &[],
-    dead: true,
-};
-
-/// How many bytes a segment of a DSS has at most.
-const SEGMENT: usize = 32_767;
-
-/// A conversation that has taken a piece, another one so many times, a last one, and then a statement.
+/// A conversation that has taken a piece, another one so many times, and then a statement.
 fn took_many(
     alloc: Global,
     first: &[u8],
     further: &[u8],
     count: u32,
-    last: &[u8],
 ) -> Result<Conversation<Small>, Fail> {
     let mut group = Small { alloc };
     let mut conversation = Conversation::new(alloc, &group, &ServerList::new())?;
@@ -327,7 +346,6 @@ fn took_many(
     for _ in 0..count {
         conversation.take(&mut group, further)?;
     }
-    conversation.take(&mut group, last)?;
     conversation.take(&mut group, &EXCSQLIMM_ALONE)?;
     Ok(conversation)
 }
@@ -335,25 +353,28 @@ fn took_many(
 /// The 4,097th command is answered RSCLMTRM with its number, nothing of its chain is run, and nothing more is taken.
 #[test]
 fn counts_commands(rt: HostRuntime) -> Result<(), Fail> {
-    let command = [0x00, 0x0A, 0xD0, 0x41, 0x00, 0x01, 0x00, 0x04, 0x20, 0x0A];
-    let last = [0x00, 0x0A, 0xD0, 0x01, 0x00, 0x02, 0x00, 0x04, 0x20, 0x0A];
-    let conversation = took_many(rt.alloc(), &command, &command, 4095, &last)?;
+    let conversation = took_many(rt.alloc(), &EXCSQLIMM_CHAINED, &EXCSQLIMM_CHAINED, 4096)?;
     assert!(rt; is(&conversation, PAST_LIMIT));
+    conversation.drop_conversation();
     Ok(())
+}
+
+/// So many bytes, and zeros behind them up to the greatest size of a segment.
+fn segment(alloc: Global, front: &[u8]) -> Result<Vec<u8>, Fail> {
+    let mut bytes = Vec::new(alloc);
+    bytes.extend_from_slice(front)?;
+    for _ in front.len()..SEGMENT {
+        bytes.push(0)?;
+    }
+    Ok(bytes)
 }
 
 /// So is the first byte beyond 33,554,432, in the 1,025th segment of a DSS.
 #[test]
 fn counts_bytes(rt: HostRuntime) -> Result<(), Fail> {
-    let zeros = vec![in rt.alloc(); 0; SEGMENT]?;
-    let mut first = Vec::new(rt.alloc());
-    first.extend_from_slice(&[0xFF, 0xFF, 0xD0, 0x01, 0x00, 0x02])?;
-    first.extend_from_slice(&zeros.as_slice()[6..])?;
-    let mut further = Vec::new(rt.alloc());
-    further.extend_from_slice(&[0xFF, 0xFF])?;
-    further.extend_from_slice(&zeros.as_slice()[2..])?;
-    let further = further.as_slice();
-    let conversation = took_many(rt.alloc(), first.as_slice(), further, 1023, further)?;
+    let first = segment(rt.alloc(), &[0xFF, 0xFF, 0xD0, 0x01, 0x00, 0x01])?;
+    let further = segment(rt.alloc(), &[0xFF, 0xFF])?;
+    let conversation = took_many(rt.alloc(), first.as_slice(), further.as_slice(), 1024)?;
     assert!(rt; is(&conversation, PAST_LIMIT));
     Ok(())
 }
