@@ -5,8 +5,6 @@ use Rattle.std.specs.Prelude.{Result, Ok, Err}
 use Rattle.dss_frame.specs.declared.dss.Dss.{Dss}
 use Rattle.dss_frame.specs.declared.dss.Kind.{Kind}
 use Rattle.dss_frame.specs.declared.dss.Kind.TheVariants.{Request, Reply, Object}
-use Rattle.dss_frame.specs.declared.fault.Why.{Why}
-use Rattle.dss_frame.specs.declared.fault.Why.TheVariants.{Short, NoD0, Format, Continue}
 use Rattle.dss_frame.specs.declared.fault.StreamFault.{StreamFault}
 use Rattle.dss_frame.specs.declared.fault.StreamFault.TheVariants.{Frame, TooLong}
 use Rattle.dss_frame.specs.Dss.{canonical}
@@ -16,6 +14,7 @@ use Rattle.ddm_objects.specs.Members.{members_of}
 use Rattle.ddm_codepoints.specs.CodePoint.{excsat}
 use Rattle.reply_texts.specs.Closing.{last, syntax_reply, limit_reply}
 use Rattle.access_handshake.specs.Excsat.{excsat_answer}
+use Rattle.drda_trace.specs.Ending.{syntax_error}
 use Rattle.access_handshake.specs.declared.excsat.ExcsatAnswer.{ExcsatAnswer}
 use Rattle.access_handshake.specs.declared.excsat.ExcsatAnswer.TheVariants.{Granted, TooLow}
 
@@ -56,13 +55,6 @@ answer_to dss =
     if is_lone_request dss
     then option_map (λ params. canonical (reply_dss dss.corr (excsat_answer params))) (params_of dss.body)
     else None
-
--- DDM, volume 3, SYNERRCD: what is wrong with the bytes of a DSS
-abbrev pub syntax_error : Why → ℕ
-syntax_error Short = 0x01
-syntax_error NoD0 = 0x03
-syntax_error Format = 0x04
-syntax_error Continue = 0x05
 
 -- The one refusal of a DSS that is no lone EXCSAT. Its correlation number 0 and its SYNERRCD are this project's choice.
 abbrev pub refusal : List ℕ

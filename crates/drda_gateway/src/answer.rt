@@ -1,29 +1,17 @@
 ghost use Rattle.std.specs.Prelude.{◌≡◌, ◌≤◌, length, IfOk, IfSome};
 ghost use Rattle.std.specs.Option.{option_copied};
 ghost use Rattle.ddm_objects.specs.Members.{IsMembers};
-ghost use Rattle.drda_gateway.specs.Answer.{answer_to, most_chain, params_of, syntax_error as error_number};
+ghost use Rattle.drda_gateway.specs.Answer.{answer_to, most_chain, params_of};
 
 use access_handshake::{ExcsatAnswer, answer_excsat};
 use ddm_codepoints::code_point::{EXCSAT, MGRLVLLS};
 use ddm_objects::{find, outer};
-use dss_frame::{Dss, Kind, Why, write_dss};
+use dss_frame::{Dss, Kind, write_dss};
 use link_ends::{NoMemory, Octets};
 use std::alloc::Global;
 
 /// The SYNERRCD of a DSS whose format isn't one that is read, and of one that isn't answered.
 pub const NOT_SUPPORTED: u8 = 0x04;
-
-/// The SYNERRCD that says what is wrong with the bytes of a DSS.
-pub fn syntax_error(why: Why) -> u8
-    ensures { result ≡ error_number why }
-{
-    match why {
-        Why::Short => 0x01,
-        Why::NoD0 => 0x03,
-        Why::Format => NOT_SUPPORTED,
-        Why::Continue => 0x05,
-    }
-}
 
 /// The parameters of EXCSAT, where the body of a request DSS is exactly that command with objects as its parameters.
 #[tactic(auto, unfolding(crate::specs::Answer::params_of))]

@@ -3,7 +3,8 @@ ghost use Rattle.drda_gateway.specs.Report.{end_of};
 ghost use Rattle.drda_gateway.specs.Session.{appended, begun, can_take, closed, end_by, fresh, is_saying, need_of, said_more, taken_more};
 ghost use Rattle.drda_gateway.specs.Answer.{fault_reply};
 
-use crate::answer::{NOT_SUPPORTED, answer, syntax_error};
+use crate::answer::{NOT_SUPPORTED, answer};
+use drda_trace::syntax_error;
 use dss_frame::{FeedFault, Reader, Side, StreamFault};
 use link_ends::{NoMemory, Octets};
 use reply_texts::{limit_dss, syntax_dss};
