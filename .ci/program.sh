@@ -113,5 +113,57 @@ compare 'standard output closed' 4
 status=$?
 compare 'the usage to a full standard output' 1
 
+# Captures: each example, with its whole text or its last lines; one that is refused; words; and ends that fail.
+usage='usage: drda_gateway trace'
+cp examples/unit.capture "$folder/script"
+unit='chain 1
+request 0001 EXCSAT 28
+request 0002 ACCSEC 32
+reply 0001 EXCSATRD 57
+reply 0002 ACCSECRD 10
+chain 2
+request 0001 SECCHK 51
+request 0002 ACCRDB 67
+reply 0001 SECCHKRM 15
+reply 0002 ACCRDBRM 45
+chain 3
+request 0001 EXCSQLIMM 4
+object 0001 SQLSTT 39
+reply 0001 SQLCARD 5
+chain 4
+request 0001 RDBCMM 4
+reply 0001 ENDUOWRM 15
+reply 0001 SQLCARD 5
+whole'
+check 'a capture of one unit' 0 "$unit" trace
+greeted='chain 1
+request 0001 EXCSAT 4
+reply 0001 EXCSATRD 33
+chain 2
+request 0002 RDBCMM 4
+unanswered 2'
+cp examples/fault.capture "$folder/script"
+check 'a capture with a fault' 6 "$greeted"$'\nfault < 45 08\nnot whole' trace
+cp examples/unanswered.capture "$folder/script"
+check 'a capture that is unanswered' 6 "$greeted"$'\nrest > 10\nnot whole' trace
+: >"$folder/script"
+check 'an empty capture' 0 'whole' trace
+printf '> 00\n# x\n> 0\n' >"$folder/script"
+check 'an odd number of digits' 2 'capture refused: line 3' trace
+printf '> 00\r\n' >"$folder/script"
+check 'a capture with a carriage return' 2 'capture refused: line 1' trace
+head -c 16777217 /dev/zero | tr '\0' '#' >"$folder/script"
+check 'a capture that is too long' 2 'capture refused: line 0' trace
+check 'a word behind trace' 1 "$usage" trace --help
+check 'trace twice' 1 "$usage" trace trace
+cp examples/fault.capture "$folder/script"
+: >"$folder/wanted"
+"$program" trace <"$folder" >"$folder/output" 2>"$folder/errors"
+status=$?
+compare 'a folder as a capture' 3
+"$program" trace <"$folder/script" >/dev/full 2>"$folder/errors"
+status=$?
+compare 'a trace to a full standard output' 4
+
 echo "program: $passed passed, $failed failed"
 [ "$failed" -eq 0 ]

@@ -8,7 +8,7 @@ use Rattle.std.specs.Prelude.{MatchOption, option_map, ◌&&◌, nat_eq, nat_lt,
 use Rattle.link_ends.specs.Counts.{counted, one_more}
 use Rattle.link_ends.specs.Source.{SourceState, AreNext, IsGiven, meets_end}
 use Rattle.link_ends.specs.Sink.{SinkState, IsTaken, after_write}
-use Rattle.drda_gateway.specs.Script.{most}
+use Rattle.hex_lines.specs.Lines.{most_bytes}
 use Rattle.drda_gateway.specs.Ends.{Gave, WasRead, WasReadUp, Took, with_taken, after_stuck_write}
 
 -- ---- reading
@@ -88,14 +88,14 @@ was_read_to_end old before now text buffer buffer_now run given room =
       faults = ap (λ (s : SourceState). s.faults) given.after ∙ run.faults;
     }
 
-pub read_up_to_end : (old now : SourceState) (text : List ℕ) → length text ≤ most → WasRead true old now text → WasReadUp old now text
-read_up_to_end old now text within read = subst (λ (b : Bool). WasRead b old now text) (sym (le-leb (length text) most within)) read
+pub read_up_to_end : (old now : SourceState) (text : List ℕ) → length text ≤ most_bytes → WasRead true old now text → WasReadUp old now text
+read_up_to_end old now text within read = subst (λ (b : Bool). WasRead b old now text) (sym (le-leb (length text) most_bytes within)) read
 
-pub read_past : (old now : SourceState) (text : List ℕ) → most < length text → WasRead false old now text → WasReadUp old now text
-read_past old now text long read = subst (λ (b : Bool). WasRead b old now text) (sym (lt-leb (length text) most long)) read
+pub read_past : (old now : SourceState) (text : List ℕ) → most_bytes < length text → WasRead false old now text → WasReadUp old now text
+read_past old now text long read = subst (λ (b : Bool). WasRead b old now text) (sym (lt-leb (length text) most_bytes long)) read
 
-pub to_end : (old now : SourceState) (text : List ℕ) → length text ≤ most → WasReadUp old now text → WasRead true old now text
-to_end old now text within read = subst (λ (b : Bool). WasRead b old now text) (le-leb (length text) most within) read
+pub to_end : (old now : SourceState) (text : List ℕ) → length text ≤ most_bytes → WasReadUp old now text → WasRead true old now text
+to_end old now text within read = subst (λ (b : Bool). WasRead b old now text) (le-leb (length text) most_bytes within) read
 
 -- ---- writing
 

@@ -1,4 +1,3 @@
-pub mod HexLemmas
 pub mod ScriptLemmas
 pub mod SplitLemmas
 pub mod Ends
@@ -7,3 +6,4 @@ pub mod Following
 pub mod Headline
 pub mod UserLemmas
 pub mod Playing
+pub mod Tracing

@@ -11,7 +11,8 @@ use Rattle.drda_gateway.specs.declared.script.ScriptWhy.{ScriptWhy}
 use Rattle.drda_gateway.specs.declared.script.ScriptFault.{ScriptFault}
 use Rattle.drda_gateway.specs.declared.script.ScriptFault.TheVariants.{Refused}
 use Rattle.drda_gateway.specs.ScriptText.{ScriptText}
-use Rattle.drda_gateway.specs.Script.{script_of, most}
+use Rattle.hex_lines.specs.Lines.{most_bytes}
+use Rattle.drda_gateway.specs.Script.{script_of}
 use Rattle.drda_gateway.specs.World.{world_of, events_of, start_world}
 use Rattle.drda_gateway.specs.Dedicated.{AreDedicated}
 use Rattle.drda_gateway.specs.Play.{Reports, Played, BegunReport}
@@ -20,10 +21,10 @@ use Rattle.drda_gateway.proofs.Ends.{to_end}
 use Rattle.drda_gateway.proofs.Headline.{all_dedicated}
 
 -- a text that is a script isn't too long
-pub script_fits : (text : List ℕ) (script : ScriptText) → script_of text ≡ Ok script → length text ≤ most
+pub script_fits : (text : List ℕ) (script : ScriptText) → script_of text ≡ Ok script → length text ≤ most_bytes
 script_fits text script e =
-    ⊎_elim (λ (long : most < length text). let refused = script_of-long text long in
-    absurd (cc)) (λ (fits : length text ≤ most). fits) (cases_lt most (length text))
+    ⊎_elim (λ (long : most_bytes < length text). let refused = script_of-long text long in
+    absurd (cc)) (λ (fits : length text ≤ most_bytes). fits) (cases_lt most_bytes (length text))
 
 -- the sessions of a script's world are as dedicated ones
 script_dedicated : (script : ScriptText) → AreDedicated (world_of script.lines)
@@ -70,12 +71,12 @@ refused text said fault line why same is reports =
 -- ---- a source that tells its bytes
 
 -- where its bytes begin with those that were read, they are no longer than a script may be, or they go past it both
-record IsPart (told text : List ℕ) : Type 0 where
-  rest : List ℕ
-  parts : told ≡ text ++ rest
-  whole : length text ≤ most → told ≡ text
+pub record IsPart (told text : List ℕ) : Type 0 where
+  pub rest : List ℕ
+  pub parts : told ≡ text ++ rest
+  pub whole : length text ≤ most_bytes → told ≡ text
 
-part_by : (source source_now : SourceState) (told text : List ℕ) → source.left ≡ Some told → WasReadUp source source_now text → IsPart told text
+pub part_by : (source source_now : SourceState) (told text : List ℕ) → source.left ≡ Some told → WasReadUp source source_now text → IsPart told text
 part_by source source_now told text tells read =
     let telling : SourceState = record source { left = Some told } in
     let is_telling : source ≡ telling = ap (λ (left : Option (List ℕ)). record source { left = left }) tells in
@@ -92,8 +93,8 @@ pub never_refused : (source source_now : SourceState) (told text : List ℕ) (sc
     → WasReadUp source source_now text → script_of text ≡ Err refusal → ⊥
 never_refused source source_now told text script refusal tells is_script read is_refused =
     let part : IsPart told text = part_by source source_now told text tells read in
-    let fits : length told ≤ most = script_fits told script is_script in
-    let within : length text ≤ most = omega (arith, ap length part.parts, length-append text part.rest) in
+    let fits : length told ≤ most_bytes = script_fits told script is_script in
+    let within : length text ≤ most_bytes = omega (arith, ap length part.parts, length-append text part.rest) in
     let clash : script_of told ≡ Err refusal = ap script_of (part.whole within) ∙ is_refused in
     cc
 

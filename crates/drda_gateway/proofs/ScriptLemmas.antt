@@ -9,14 +9,14 @@ use Rattle.drda_gateway.specs.declared.script.fault.LineFault.TheVariants.{Refus
 use Rattle.drda_gateway.specs.declared.script.draft.Draft.{Draft}
 use Rattle.drda_gateway.specs.Answers.{Adds, Reads, fault_at}
 use Rattle.drda_gateway.specs.ScriptText.{ScriptText}
-use Rattle.drda_gateway.specs.Script.{after_line, line_added, lines_added, script_of, start, most}
-use Rattle.drda_gateway.specs.Split.{lines_of}
+use Rattle.drda_gateway.specs.Script.{after_line, line_added, lines_added, script_of, start}
+use Rattle.hex_lines.specs.Lines.{lines_of, most_bytes}
 
 -- the lines of the rest, the first of which has this number, added to the draft, say what all lines say
 pub record ReadSoFar (number : ℕ) (draft : Draft) (rest text : List ℕ) : Type 0 where
   pub same : lines_added number draft (lines_of rest) ≡ lines_added 1 start (lines_of text)
   pub counted : number + length rest ≤ length text + 1
-  pub short : length text ≤ most
+  pub short : length text ≤ most_bytes
 
 lines_added-cons : (number : ℕ) (draft : Draft) (rest line after : List ℕ) → lines_of rest ≡ line ∷ lines_of after →
     lines_added number draft (lines_of rest) ≡ after_line number (line_added draft line) (λ next. lines_added (number + 1) next (lines_of after))
@@ -33,13 +33,13 @@ lines_added-err : (number : ℕ) (draft : Draft) (why : ScriptWhy) (rest line af
 lines_added-err number draft why rest line after e refused =
     lines_added-cons number draft rest line after e ∙ ap (λ answer. after_line number answer (λ draft. lines_added (number + 1) draft (lines_of after))) refused
 
-pub script_of-long : (text : List ℕ) → most < length text → script_of text ≡ Err (record { line = 0; why = Long })
+pub script_of-long : (text : List ℕ) → most_bytes < length text → script_of text ≡ Err (record { line = 0; why = Long })
 unfolding script_of
-script_of-long text long = ap (λ b. cond b (Err (record { line = 0; why = Long })) (lines_added 1 start (lines_of text))) (lt-ltb most (length text) long)
+script_of-long text long = ap (λ b. cond b (Err (record { line = 0; why = Long })) (lines_added 1 start (lines_of text))) (lt-ltb most_bytes (length text) long)
 
-script_of-short : (text : List ℕ) → length text ≤ most → script_of text ≡ lines_added 1 start (lines_of text)
+script_of-short : (text : List ℕ) → length text ≤ most_bytes → script_of text ≡ lines_added 1 start (lines_of text)
 unfolding script_of
-script_of-short text short = ap (λ b. cond b (Err (record { line = 0; why = Long })) (lines_added 1 start (lines_of text))) (le-ltb most (length text) short)
+script_of-short text short = ap (λ b. cond b (Err (record { line = 0; why = Long })) (lines_added 1 start (lines_of text))) (le-ltb most_bytes (length text) short)
 
 -- the script is what is left to read, added to what was read
 script_of-so_far : (number : ℕ) (draft : Draft) (rest text : List ℕ) → ReadSoFar number draft rest text →

@@ -5,7 +5,7 @@ use Rattle.drda_gateway.specs.declared.script.draft.Keyword.TheVariants as keywo
 use Rattle.drda_gateway.specs.declared.script.Line.{Line}
 use Rattle.drda_gateway.specs.declared.script.Line.TheVariants as line
 use Rattle.drda_gateway.specs.Field.{is_name}
-use Rattle.drda_gateway.specs.Hex.{bytes_of_hex}
+use Rattle.hex_lines.specs.Hex.{bytes_of_hex}
 use Rattle.drda_gateway.specs.Number.{number_within}
 use Rattle.drda_gateway.specs.ScriptText.{ScriptText}
 use Rattle.drda_gateway.specs.Users.{is_taken}

@@ -4,7 +4,7 @@ use Rattle.std.specs.Prelude.{ℕ, List, ◌++◌, ◌≡◌, ◌<◌, ◌≤◌
 use Rattle.link_ends.specs.Counts.{Rose, one_more, counted}
 use Rattle.link_ends.specs.Source.{SourceState}
 use Rattle.link_ends.specs.Sink.{SinkState, after_failed_write}
-use Rattle.drda_gateway.specs.Script.{most}
+use Rattle.hex_lines.specs.Lines.{most_bytes}
 use Rattle.drda_gateway.specs.declared.input.ReadError.{ReadError}
 use Rattle.drda_gateway.specs.declared.input.ReadError.TheVariants.{Fault, NoMemory}
 
@@ -20,19 +20,19 @@ pub record WasRead (to_end : Bool) (old new : SourceState) (text : List ℕ) : T
   pub ends : new.ends ≡ counted to_end old.ends
   pub faults : new.faults ≡ old.faults
 
--- a text was read of a source to its end, or until it was longer than a script may be
+-- a text was read of a source to its end, or until it was longer than the longest that is read
 abbrev pub WasReadUp : SourceState → SourceState → List ℕ → Type 0
-WasReadUp old new text = WasRead (nat_le (length text) most) old new text
+WasReadUp old new text = WasRead (nat_le (length text) most_bytes) old new text
 
 -- some text was read of a source
 abbrev pub ReadSome : SourceState → SourceState → Type 0
 ReadSome old new = (to_end : Bool) × (text : List ℕ) × WasRead to_end old new text
 
--- A read failed. What was read before it is no longer than a script may be, and didn't meet the end.
+-- A read failed. What was read before it is no longer than the longest that is read, and didn't meet the end.
 pub record ReadBrokeOff (old new : SourceState) : Type 0 where
   pub text : List ℕ
   pub gave : Gave old new text
-  pub within : length text ≤ most
+  pub within : length text ≤ most_bytes
   pub ends : new.ends ≡ old.ends
   pub fault : new.faults ≡ one_more old.faults
 

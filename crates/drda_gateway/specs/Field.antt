@@ -1,11 +1,6 @@
 -- Tests of lines and words. They are this project's choice.
-use Rattle.std.specs.Prelude.{ℕ, List, [], ◌∷◌, ◌==◌, ◌&&◌, ◌||◌, nat_le, length, Bool, true}
+use Rattle.std.specs.Prelude.{ℕ, List, ◌&&◌, ◌||◌, nat_le, length, Bool}
 use Rattle.std.specs.List.{list_all}
-
--- a line that is empty, or begins with #
-abbrev pub is_skipped : List ℕ → Bool
-is_skipped [] = true
-is_skipped (first ∷ rest) = first == 35
 
 -- printable ASCII
 abbrev pub is_printable : ℕ → Bool

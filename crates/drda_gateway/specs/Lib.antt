@@ -1,7 +1,6 @@
 pub mod Answers
 pub mod Content
 pub mod Field
-pub mod Hex
 pub mod Keyword
 pub mod Number
 pub mod Refusal
@@ -15,4 +14,5 @@ pub mod World
 pub mod Dedicated
 pub mod Report
 pub mod Play
+pub mod Trace
 pub mod Users

@@ -12,7 +12,8 @@ use Rattle.drda_gateway.specs.ScriptText.{ScriptText}
 use Rattle.drda_gateway.specs.Script.{script_of}
 use Rattle.drda_gateway.specs.Ends.{WasRead, WasReadUp, Took, BrokeOff, Offered}
 use Rattle.drda_gateway.specs.World.{world_of}
-use Rattle.drda_gateway.specs.Report.{report_of, line_end}
+use Rattle.drda_gateway.specs.Report.{report_of}
+use Rattle.hex_lines.specs.Lines.{line_end}
 use Rattle.drda_gateway.specs.Dedicated.{AreDedicated}
 
 -- the words that play is called by

@@ -3,6 +3,7 @@ use Rattle.std.specs.Prelude.{ℕ, List, [], ◌∷◌, ◌++◌, ◌+◌, ◌==
 use Rattle.std.specs.List.{flat_map}
 use Rattle.std.specs.Fmt.{decimal}
 use Rattle.hex.specs.Hex.{encode_upper}
+use Rattle.hex_lines.specs.Lines.{line_end}
 use Rattle.drda_gateway.specs.declared.session.End.{End}
 use Rattle.drda_gateway.specs.declared.session.End.TheVariants.{Refused, Limit}
 use Rattle.drda_gateway.specs.declared.world.ErrorWord.{ErrorWord}
@@ -11,9 +12,6 @@ use Rattle.drda_gateway.specs.declared.world.Entry.{Entry}
 use Rattle.drda_gateway.specs.declared.world.Entry.TheVariants.{Answer, Error}
 use Rattle.drda_gateway.specs.Session.{SessionState, is_saying}
 use Rattle.drda_gateway.specs.World.{WorldState}
-
-abbrev pub line_end : List ℕ
-line_end = 10 ∷ []
 
 -- bytes as digits, with a dash for none
 abbrev pub shown_bytes : List ℕ → List ℕ

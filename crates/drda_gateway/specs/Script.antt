@@ -6,20 +6,17 @@ use Rattle.drda_gateway.specs.declared.script.ScriptWhy.TheVariants.{Word, Order
 use Rattle.drda_gateway.specs.declared.script.draft.Draft.{Draft}
 use Rattle.drda_gateway.specs.declared.script.draft.Stage.TheVariants.{Start}
 use Rattle.drda_gateway.specs.Content.{fields_read}
-use Rattle.drda_gateway.specs.Field.{is_printable, is_skipped}
+use Rattle.drda_gateway.specs.Field.{is_printable}
 use Rattle.drda_gateway.specs.Keyword.{keyword_of, stage_after, is_whole}
 use Rattle.drda_gateway.specs.Refusal.{Refusal}
 use Rattle.drda_gateway.specs.ScriptText.{ScriptText, empty_text}
-use Rattle.drda_gateway.specs.Split.{lines_of, words_of, word}
+use Rattle.drda_gateway.specs.Split.{words_of, word}
+use Rattle.hex_lines.specs.Lines.{lines_of, is_skipped, most_bytes}
 
 infixl 10 ◌>>=◌
 abbrev pub ◌>>=◌ : {A B : Type 0} → Result A ScriptWhy → (A → Result B ScriptWhy) → Result B ScriptWhy
 (Ok value) >>= f = f value
 (Err why) >>= f = Err why
-
--- the longest script, in bytes
-abbrev pub most : ℕ
-most = 16777216
 
 -- no line was read yet
 abbrev pub start : Draft
@@ -53,4 +50,4 @@ lines_added number draft (line ∷ lines) = after_line number (line_added draft 
 
 -- the script of a text, or its first bad line
 unfoldable pub script_of : List ℕ → Result ScriptText Refusal
-script_of text = if nat_lt most (length text) then Err (record { line = 0; why = Long }) else lines_added 1 start (lines_of text)
+script_of text = if nat_lt most_bytes (length text) then Err (record { line = 0; why = Long }) else lines_added 1 start (lines_of text)

@@ -1,7 +1,7 @@
 ghost use Rattle.std.specs.Prelude.{◌≡◌, IfOk, IfErr};
 ghost use Rattle.drda_gateway.specs.Ends.{WasReadUp, ReadFails};
 
-use crate::script::MOST_BYTES;
+use hex_lines::MOST_BYTES;
 use link_ends::{NoMemory, Octets, Source};
 use std::alloc::Global;
 
@@ -24,7 +24,7 @@ impl From<NoMemory> for ReadError {
     }
 }
 
-/// Reads a source to its end, or until it has given more bytes than a script may have. A call that fails ends it, and so
+/// Reads a source to its end, or until it has given more bytes than the longest text that is read. A call that fails ends it, and so
 /// does want of memory.
 pub fn read_all<S: Source>(alloc: Global, source: &mut S) -> Result<Octets, ReadError>
     ensures read { IfOk result (λ text. WasReadUp (S.state source.old) (S.state source.new) text) }

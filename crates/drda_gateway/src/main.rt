@@ -2,6 +2,7 @@
 #![tactic(auto)]
 
 mod answer;
+mod command;
 mod input;
 mod laws;
 mod output;
@@ -9,9 +10,11 @@ mod play;
 mod report;
 mod script;
 mod session;
+mod status;
 mod std_ends;
 #[cfg(test)]
 mod tests;
+mod trace;
 mod world;
 
 use link_ends::NoMemory;
@@ -19,6 +22,7 @@ use play::play;
 use std::process::ExitCode;
 use std::{env, io};
 use std_ends::{StdSink, StdSource};
+use trace::trace;
 
 /// The status of a program that finds no memory for its words.
 const NO_MEMORY: u8 = 5;
@@ -48,5 +52,9 @@ fn main(rt: HostRuntime) -> ExitCode {
     };
     let mut source = StdSource::new(rt.reader());
     let mut sink = StdSink::new(io::writer(&rt));
-    ExitCode::from(play(rt.alloc(), &words, &mut source, &mut sink))
+    let status = match words.first() {
+        Some(word) if word.as_str() == "trace" => trace(rt.alloc(), &words, &mut source, &mut sink),
+        _ => play(rt.alloc(), &words, &mut source, &mut sink),
+    };
+    ExitCode::from(status)
 }

@@ -1,5 +1,5 @@
 ghost use Rattle.std.specs.Prelude.{OnOk, OnErr};
-ghost use Rattle.drda_gateway.specs.Ends.{Took, BrokeOff};
+ghost use Rattle.drda_gateway.specs.Ends.{Took, BrokeOff, Offered};
 
 use link_ends::{Failed, Sink};
 
@@ -17,4 +17,11 @@ pub fn write_all<K: Sink>(sink: &mut K, text: &[u8]) -> Result<(), Failed>
         from += count;
     }
     Ok(())
+}
+
+/// Writes a text, as far as the sink takes it.
+pub fn offer<K: Sink>(sink: &mut K, text: &[u8])
+    ensures { Offered (K.state sink.old) (K.state sink.new) text.now }
+{
+    let _ = write_all(sink, text);
 }

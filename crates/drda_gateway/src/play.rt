@@ -5,33 +5,18 @@ ghost use Rattle.drda_gateway.specs.ScriptText.{ScriptText};
 ghost use Rattle.drda_gateway.specs.Script.{script_of};
 ghost use Rattle.drda_gateway.specs.Play.{play_words, usage_text, refusal_text, Played, RefusedScript, BegunReport, Reports};
 
+use crate::command::are_words;
 use crate::input::{ReadError, read_all};
-use crate::output::write_all;
+use crate::output::{offer, write_all};
 use crate::report::report;
 use crate::script::{ScriptFault, ScriptWhy, read_script};
+use crate::status::Status;
 use crate::world::run_script;
 use link_ends::{NoMemory, Octets, Sink, Source};
 use std::alloc::Global;
 
 /// What `play` is called with, as its users are told.
 const USAGE: &[u8] = b"usage: drda_gateway play\n";
-
-/// How `play` ends. Its number is the status of the program.
-#[derive(Clone, Copy, Debug, PartialEq, Eq)]
-enum Status {
-    /// The whole report was taken.
-    Done = 0,
-    /// The words aren't those of `play`.
-    Usage = 1,
-    /// The script is refused.
-    Refused = 2,
-    /// A read failed.
-    SourceFault = 3,
-    /// A write failed, or took nothing.
-    SinkFault = 4,
-    /// Memory ran out.
-    NoMemory = 5,
-}
 
 /// Reads a script to its end, runs it, and writes the report. The words are exactly `play`.
 ///
@@ -61,7 +46,7 @@ pub fn play<S: Source, K: Sink>(alloc: Global, words: &[String], source: &mut S,
         → map string_bytes words.now ≡ play_words → NoReadFailed (S.state source.old) (S.state source.new)
         → (result ≡ 2) ⊎ (result ≡ 5) }
 {
-    if !are_play_words(words) {
+    if !are_words(words, "play") {
         offer(sink, USAGE);
         return Status::Usage as u8;
     }
@@ -84,23 +69,6 @@ pub fn play<S: Source, K: Sink>(alloc: Global, words: &[String], source: &mut S,
         },
         Err(ScriptFault::NoMemory) => Status::NoMemory as u8,
     }
-}
-
-/// Whether the words are those of `play`.
-fn are_play_words(words: &[String]) -> bool
-    ensures { IsTrue result ↔ (map string_bytes words.now ≡ play_words) }
-{
-    match words {
-        [word] => word.as_str() == "play",
-        _ => false,
-    }
-}
-
-/// Writes a text, as far as the sink takes it.
-fn offer<K: Sink>(sink: &mut K, text: &[u8])
-    ensures { Offered (K.state sink.old) (K.state sink.new) text.now }
-{
-    let _ = write_all(sink, text);
 }
 
 /// The report of the script that a text is.

@@ -3,7 +3,6 @@ ghost use Rattle.drda_gateway.specs.Answers.{Reads};
 ghost use Rattle.drda_gateway.specs.Script.{script_of};
 
 mod content;
-mod digits;
 mod draft;
 mod fault;
 mod field;
@@ -12,14 +11,11 @@ mod split;
 mod users;
 
 use draft::Draft;
+use hex_lines::{MOST_BYTES, split_line};
 use link_ends::{NoMemory, Octets};
-use split::split_line;
 use std::alloc::Global;
 use std::marker::Model;
 use users::Users;
-
-/// The longest script, in bytes.
-pub const MOST_BYTES: usize = 16_777_216;
 
 /// A member server: its number, from 1, and its weight.
 #[derive(Debug, Drop)]

@@ -4,7 +4,6 @@ ghost use Rattle.drda_gateway.specs.ScriptText.{empty_text};
 ghost use Rattle.drda_gateway.specs.Content.{rdb_read, cap_read, member_read, user_read, app_read, take_read, settle_read, bytes_read, fields_read};
 ghost use Rattle.drda_gateway.specs.declared.script.ScriptWhy.TheVariants.{Field};
 
-use crate::script::digits::read_hex;
 use crate::script::draft::Keyword;
 use crate::script::fault::LineFault;
 use crate::script::field::is_name;
@@ -12,6 +11,7 @@ use crate::script::number::read_within;
 use crate::script::split::Words;
 use crate::script::users::Users;
 use crate::script::{Line, Member, Script, ScriptWhy};
+use hex_lines::read_hex;
 use link_ends::Octets;
 use std::alloc::Global;
 
@@ -25,7 +25,7 @@ fn read_bytes(alloc: Global, count: usize, third: &[u8]) -> Result<Octets, LineF
     if count == 2 {
         return Ok(Octets::new(alloc));
     }
-    read_hex(alloc, third)
+    read_hex(alloc, third)?.ok_or(FIELD)
 }
 
 impl Script {

@@ -5,9 +5,10 @@ ghost use Rattle.drda_gateway.specs.Script.{start, words_added, line_added, line
 ghost use Rattle.drda_gateway.specs.Split.{words_of};
 
 use crate::script::fault::LineFault;
-use crate::script::field::{is_printable, is_skipped};
+use crate::script::field::is_printable;
 use crate::script::split::split_words;
 use crate::script::{Script, ScriptFault, ScriptWhy};
+use hex_lines::is_skipped;
 use std::alloc::Global;
 
 /// The first word of a line.

@@ -1,16 +1,6 @@
 ghost use Rattle.std.specs.Prelude.{◌≡◌};
-ghost use Rattle.drda_gateway.specs.Field.{is_name, is_name_byte, is_printable, is_skipped};
+ghost use Rattle.drda_gateway.specs.Field.{is_name, is_name_byte, is_printable};
 ghost use Rattle.std.specs.List.{list_all};
-
-/// Whether a line is empty, or a comment.
-pub fn is_skipped(line: &[u8]) -> bool
-    ensures { result ≡ is_skipped line.now }
-{
-    match line {
-        [] => true,
-        [first, ..] => *first == b'#',
-    }
-}
 
 /// Whether each byte is printable ASCII.
 pub fn is_printable(line: &[u8]) -> bool

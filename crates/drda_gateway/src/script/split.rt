@@ -1,37 +1,9 @@
-ghost use Rattle.std.specs.Prelude.{◌≡◌, ◌==◌, ℕ, ◌<◌, ◌∷◌, length, suc, position, count_by};
-ghost use Rattle.std.specs.List.{before_first, after_first};
-ghost use Rattle.drda_gateway.specs.Split.{lines_of, words_of, word};
+ghost use Rattle.std.specs.Prelude.{◌≡◌, ◌==◌, ℕ, length, suc, count_by};
+ghost use Rattle.drda_gateway.specs.Split.{words_of, word};
 
-const LINE_FEED: u8 = 10;
+use hex_lines::cut_at;
 
 const SPACE: u8 = 32;
-
-/// The first place of a byte, from 0.
-fn place_of(bytes: &[u8], byte: u8) -> Option<usize>
-    ensures { result ≡ position (λ b. b == byte) bytes.now }
-{
-    bytes.iter().position(|b| *b == byte)
-}
-
-/// What stands before the first such byte, and what stands after it: nothing, where there is none.
-fn cut_at(bytes: &[u8], byte: u8) -> (&[u8], &[u8])
-    ensures before { result.0.now ≡ before_first (λ b. b == byte) bytes.now }
-    ensures after { result.1.now ≡ after_first (λ b. b == byte) bytes.now }
-{
-    match place_of(bytes, byte) {
-        Some(end) => (&bytes[..end], &bytes[end + 1..]),
-        None => (bytes, &bytes[bytes.len()..]),
-    }
-}
-
-/// The first line of a text, and what stands after its line feed.
-pub fn split_line(text: &[u8]) -> (&[u8], &[u8])
-    requires { 0 < length text.now }
-    ensures lines { lines_of text.now ≡ result.0.now ∷ lines_of result.1.now }
-    ensures shorter { length result.1.now < length text.now }
-{
-    cut_at(text, LINE_FEED)
-}
 
 /// The first word of a line, and what stands after its space.
 fn split_word(line: &[u8]) -> (&[u8], &[u8])
