@@ -39,7 +39,8 @@ script_of-long text long = ap (λ b. cond b (Err (record { line = 0; why = Long 
 
 script_of-short : (text : List ℕ) → length text ≤ most_bytes → script_of text ≡ lines_added 1 start (lines_of text)
 unfolding script_of
-script_of-short text short = ap (λ b. cond b (Err (record { line = 0; why = Long })) (lines_added 1 start (lines_of text))) (le-ltb most_bytes (length text) short)
+script_of-short text short =
+    ap (λ b. cond b (Err (record { line = 0; why = Long })) (lines_added 1 start (lines_of text))) (le-ltb most_bytes (length text) short)
 
 -- the script is what is left to read, added to what was read
 script_of-so_far : (number : ℕ) (draft : Draft) (rest text : List ℕ) → ReadSoFar number draft rest text →

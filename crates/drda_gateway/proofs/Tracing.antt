@@ -1,5 +1,6 @@
 -- What a run of trace has read and written, put together.
-use Rattle.std.proofs.Common.{◌≡◌, ◌<◌, ◌≤◌, ◌⊎◌, ℕ, List, ◌++◌, Bool, true, Option, Some, Result, Ok, Err, cond, length, sym, subst, ap, ◌∙◌, refl, arith, ⊎_elim, inl}
+use Rattle.std.proofs.Common.{◌≡◌, ◌<◌, ◌≤◌, ◌⊎◌, ℕ, List, ◌++◌, Bool, true, Option, Some, Result}
+use Rattle.std.proofs.Common.{Ok, Err, cond, length, sym, subst, ap, ◌∙◌, refl, arith, ⊎_elim, inl}
 use Rattle.std.proofs.lemmas.Bool.{cases_lt}
 use Rattle.std.proofs.lemmas.List.{length-append}
 use Rattle.link_ends.specs.Source.{SourceState}
