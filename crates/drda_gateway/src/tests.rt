@@ -4,6 +4,7 @@ use crate::play::play;
 use crate::report::report;
 use crate::script::Line;
 use crate::std_ends::{StdSink, StdSource};
+use crate::trace::trace;
 use crate::world::run_script;
 use link_ends::{Failed, Marks, MemSink, MemSource, NoMemory, Octets, Sink, Source};
 use std::alloc::Global;
@@ -22,6 +23,33 @@ log answer 1
 count commits 0 dials 0 reuses 0 losses 0
 ";
 
+/// Whether the command answers this status and writes this text, where these calls of its source and of its sink fail. Its
+/// words are its name, and one more where there is one.
+fn answers(
+    alloc: Global,
+    command: &str,
+    word: &str,
+    text: &str,
+    fails: (&[u32], &[u32]),
+    status: u8,
+    written: &str,
+) -> Result<bool, NoMemory> {
+    let mut words = Vec::new(alloc);
+    words.push(String::from_str(alloc, command)?)?;
+    if !word.is_empty() {
+        words.push(String::from_str(alloc, word)?)?;
+    }
+    let bytes = Octets::of(alloc, text.as_bytes())?;
+    let mut source = MemSource::new(bytes, Marks::of(alloc, fails.0)?);
+    let mut sink = MemSink::new(alloc, 1_048_576, Marks::of(alloc, fails.1)?)?;
+    let answer = if command == "trace" {
+        trace(alloc, &words, &mut source, &mut sink)
+    } else {
+        play(alloc, &words, &mut source, &mut sink)
+    };
+    Ok(answer == status && sink.written() == written.as_bytes())
+}
+
 /// Whether `play` answers this status and writes this text, where these calls of its source and of its sink fail.
 fn plays(
     alloc: Global,
@@ -31,16 +59,7 @@ fn plays(
     status: u8,
     written: &str,
 ) -> Result<bool, NoMemory> {
-    let mut words = Vec::new(alloc);
-    words.push(String::from_str(alloc, "play")?)?;
-    if !word.is_empty() {
-        words.push(String::from_str(alloc, word)?)?;
-    }
-    let bytes = Octets::of(alloc, text.as_bytes())?;
-    let mut source = MemSource::new(bytes, Marks::of(alloc, fails.0)?);
-    let mut sink = MemSink::new(alloc, 1_048_576, Marks::of(alloc, fails.1)?)?;
-    let answer = play(alloc, &words, &mut source, &mut sink);
-    Ok(answer == status && sink.written() == written.as_bytes())
+    answers(alloc, "play", word, text, fails, status, written)
 }
 
 #[test]
@@ -57,6 +76,38 @@ fn answers_by_causes(rt: HostRuntime) -> Result<(), Fail> {
     assert!(rt; plays(alloc, "", text, (&[1], &[]), 3, "")?);
     assert!(rt; plays(alloc, "", text, (&[], &[0]), 4, "")?);
     assert!(rt; plays(alloc, "--fast", text, (&[], &[0]), 1, "")?);
+    Ok(())
+}
+
+#[test]
+fn traces_by_causes(rt: HostRuntime) -> Result<(), Fail> {
+    let alloc = rt.alloc();
+    let asked = "> 000AD001000100041041\n";
+    let whole = "> 000AD001000100041041\n< 000AD003000100041443\n";
+    let shown = "chain 1\nrequest 0001 EXCSAT 4\nreply 0001 EXCSATRD 4\nwhole\n";
+    let lacking = "chain 1\nrequest 0001 EXCSAT 4\nunanswered 1\nnot whole\n";
+    let usage = "usage: drda_gateway trace\n";
+    let refused = "capture refused: line 3\n";
+    assert!(rt; answers(alloc, "trace", "", whole, (&[], &[]), 0, shown)?);
+    assert!(rt; answers(alloc, "trace", "", asked, (&[], &[]), 6, lacking)?);
+    assert!(rt; answers(alloc, "trace", "--help", whole, (&[], &[]), 1, usage)?);
+    assert!(rt; answers(alloc, "trace", "--help", whole, (&[], &[0]), 1, "")?);
+    assert!(rt;
+        answers(
+            alloc,
+            "trace",
+            "",
+            "> 00\n# x\n> 0\n",
+            (&[], &[]),
+            2,
+            refused
+        )?
+    );
+    assert!(rt; answers(alloc, "trace", "", "> 00\n# x\n> 0\n", (&[], &[0]), 2, "")?);
+    assert!(rt; answers(alloc, "trace", "", whole, (&[0], &[]), 3, "")?);
+    assert!(rt; answers(alloc, "trace", "", whole, (&[1], &[]), 3, "")?);
+    assert!(rt; answers(alloc, "trace", "", whole, (&[], &[0]), 4, "")?);
+    assert!(rt; answers(alloc, "trace", "", asked, (&[], &[0]), 4, "")?);
     Ok(())
 }
 
