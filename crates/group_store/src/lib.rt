@@ -19,6 +19,3 @@ mod unit_end;
 pub use rows::{Row, RowList};
 pub use store::Store;
 pub use unit::StoreUnit;
-
-#[cfg(test)]
-mod tests;
