@@ -6,10 +6,10 @@ use Rattle.std.proofs.lemmas.List.{append-nil, take-append-drop}
 use Rattle.std.proofs.Math.Seq.{take-add}
 use Rattle.std.specs.Prelude.{MatchOption, option_map, ◌&&◌, nat_eq, nat_lt, nat_le}
 use Rattle.link_ends.specs.Counts.{counted, one_more}
-use Rattle.link_ends.specs.Source.{SourceState, AreNext, IsGiven, meets_end}
+use Rattle.link_ends.specs.Source.{SourceState, AreNext, IsGiven, IsNotGiven, meets_end}
 use Rattle.link_ends.specs.Sink.{SinkState, IsTaken, after_write}
 use Rattle.hex_lines.specs.Lines.{most_bytes}
-use Rattle.drda_gateway.specs.Ends.{Gave, WasRead, WasReadUp, Took, with_taken, after_stuck_write}
+use Rattle.drda_gateway.specs.Ends.{Gave, WasRead, WasReadUp, ReadBrokeOff, Took, with_taken, after_stuck_write}
 
 -- ---- reading
 
@@ -71,6 +71,18 @@ goes_on_more old before now text buffer buffer_now count run given some =
 pub was_read_some : (old now : SourceState) (text : List ℕ) → GoesOn old now text → WasRead false old now text
 was_read_some old now text run =
     record { gave = run.gave; all = λ e. absurd (cc); ends = run.ends; faults = run.faults }
+
+-- the run, and a read that failed
+pub broke_off : (old before now : SourceState) (text buffer buffer_now : List ℕ)
+    → GoesOn old before text → IsNotGiven before now buffer buffer_now → length text ≤ most_bytes → ReadBrokeOff old now
+broke_off old before now text buffer buffer_now run failed within =
+    record {
+      text = text;
+      gave = subst (λ (s : SourceState). Gave old s text) (sym failed.after) run.gave;
+      within = within;
+      ends = ap (λ (s : SourceState). s.ends) failed.after ∙ run.ends;
+      fault = ap (λ (s : SourceState). s.faults) failed.after ∙ ap one_more run.faults;
+    }
 
 gave_none_more : (old before now : SourceState) (text buffer buffer_now : List ℕ)
     → Gave old before text → IsGiven 0 before now buffer buffer_now → Gave old now text

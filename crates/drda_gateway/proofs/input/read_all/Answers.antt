@@ -1,7 +1,7 @@
 use Rattle.std.proofs.Common.{◌≡◌, ◌++◌, List, ℕ, false, take, subst, sym, arith, rules}
 use Rattle.link_ends.specs.Source.{SourceState}
 use Rattle.drda_gateway.specs.Ends.{ReadSome}
-use Rattle.drda_gateway.proofs.Ends.{GoesOn, goes_on_more, was_read_some}
+use Rattle.drda_gateway.proofs.Ends.{GoesOn, goes_on_more, was_read_some, broke_off}
 use Rattle.drda_gateway.proofs.input.read_all.Goals as goal
 
 pub loop-buf-preserved : goal.loop-buf-preserved
@@ -23,3 +23,11 @@ returns-in_err-push_all-clause-fails g c =
     goes_on_more old before now c.loop-buf.text c.loop-buf.buf c.read.new.buf c.in-Ok.count c.loop-buf.invariant.run c.in-Ok.ensures c.if-count-eq0.false in
     let some : ReadSome old now = (false, c.loop-buf.text ++ take c.in-Ok.count c.read.new.buf, was_read_some old now _ more) in
     search (rules, some)
+
+pub returns-in-Err-clause-fails : goal.returns-in-Err-clause-fails
+returns-in-Err-clause-fails g c =
+    let old : SourceState = g.S.Source.state c.args.source.now in
+    let before : SourceState = g.S.Source.state c.loop-buf.source in
+    let now : SourceState = g.S.Source.state c.read.new.self in
+    broke_off old before now c.loop-buf.text c.loop-buf.buf c.read.new.buf c.loop-buf.invariant.run c.in-Err.ensures
+    (omega (arith, c.len.ensures, c.loop-buf-test.true))
