@@ -67,16 +67,12 @@ pub fn chains_are_read()
         → AreChains commands rest placed → (chains_of placed).chains ≡ commands }
 {}
 
-/// The fault that is told is the first one.
+/// The fault that is told of DSSs is their first one.
 pub fn told_fault_is_the_first()
-    ensures { (placed : List Placed) (fault : ChainFault) → AllByRecursion (λ p. AreBytes p.dss.body) placed
-        → (chains_of placed).fault ≡ Some fault → IsBadChain placed fault }
-{}
-
-/// The first fault is told.
-pub fn first_fault_is_told()
-    ensures { (placed : List Placed) (fault : ChainFault) → AllByRecursion (λ p. AreBytes p.dss.body) placed
+    ensures found { (placed : List Placed) (fault : ChainFault) → AllByRecursion (λ p. AreBytes p.dss.body) placed
         → IsBadChain placed fault → (chains_of placed).fault ≡ Some fault }
+    ensures only { (placed : List Placed) (fault : ChainFault) → AllByRecursion (λ p. AreBytes p.dss.body) placed
+        → (chains_of placed).fault ≡ Some fault → IsBadChain placed fault }
 {}
 
 /// No chain begins another: DSSs are one list of chains at most, and what follows them is one rest.

@@ -25,9 +25,9 @@ pub use fault::ChainFault;
 pub use join::join_replies;
 pub use laws::{
     access_chain_is_read, asked_segment_is_read, body_fault_is_the_first, bytes_are_one_list,
-    chains_are_one_list, chains_are_read, chains_can_be_written, first_fault_is_told,
-    read_are_chains, register_chain_is_read, segments_are_one_list, segments_are_the_chain,
-    sound_bodies_are_read, told_fault_is_the_first, written_chain_is_read,
+    chains_are_one_list, chains_are_read, chains_can_be_written, read_are_chains,
+    register_chain_is_read, segments_are_one_list, segments_are_the_chain, sound_bodies_are_read,
+    told_fault_is_the_first, written_chain_is_read,
 };
 pub use registers::{RegisterFault, RegisterLog};
 pub use release::ask_release;
