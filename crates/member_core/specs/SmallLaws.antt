@@ -53,9 +53,9 @@ reply_by is_accrdb is_statement number =
 
 is_reply_by : (a b : Bool) (c : Command) → IsReplyTo c (reply_by a b c.corr)
 unfolding extent_at object_at first_object members_within parameter typdef_of ebcdic_of ascii_of
-is_reply_by true b c = record { number = refl; kind = refl; readable = λ _. (leb-true 45 16777216 refl, refl) }
-is_reply_by false true c = record { number = refl; kind = refl; readable = λ e. absurd (false≢true e) }
-is_reply_by false false c = record { number = refl; kind = refl; readable = λ e. absurd (false≢true e) }
+is_reply_by true b c = record { number = refl; kind = refl; readable = λ _. (leb-true 45 16777216 refl, refl); end_fits = λ e. absurd (false≢true e) }
+is_reply_by false true c = record { number = refl; kind = refl; readable = λ e. absurd (false≢true e); end_fits = λ e. absurd (false≢true e) }
+is_reply_by false false c = record { number = refl; kind = refl; readable = λ e. absurd (false≢true e); end_fits = λ e. absurd (false≢true e) }
 
 abbrev is_nil : List Dss → Bool
 is_nil [] = true
@@ -131,10 +131,11 @@ small_laws {S} = record {
     same_by s c d (asked c) (asked d) same (asked_reply c) (asked_numbered d),
   );
   released = λ st s u c a b i e f g h j. (refl, refl);
-  held = λ st s u c a b i e f g h j. tt;
+  held = λ st s u c a b i e f g h. tt;
   greeted = λ typ mechanism. leads_all S mechanism (own_command excsat hello_object ∷ []) typ;
   led_back = λ name typ st are. leads_all S st.access.secmec (replayed name st.stage st.access st.log) typ;
-  at_base = λ st. tt;
+  unset_base = λ st e. tt;
+  at_base = λ st u is. tt;
   admitted = λ st s u c a b i e f g. tt;
   not_admitted = λ st s u c a b i e f g. refl;
   let_in = λ st s u c a b i e f g. refl;

@@ -32,7 +32,6 @@ use Rattle.plain_model.specs.Group.{Meaning, Values, Laws, IsCommand, IsReplyTo}
 use Rattle.plain_model.specs.Local.{Refuses, to_excsat, to_accsec, to_rdbnam, allowed_answer, local_answer}
 use Rattle.plain_model.specs.Answered.{standing_after, is_work}
 use Rattle.plain_model.specs.Plain.{seen}
-use Rattle.plain_model.specs.Succeeds.{EndsFit}
 use Rattle.plain_model.proofs.Segments.{IsSegment, IsCut, Closes, is_end, end_from, drop_nothing, next_number, not_end_next, cons_nil, head_is}
 use Rattle.plain_model.proofs.Replies.{HaveNumber, AreUpTo, none_beyond, none_zero, no_replies, replies_both}
 use Rattle.plain_model.proofs.Runs.{without_number}
@@ -142,11 +141,10 @@ passes c e f = pass_is (class_of c.code) (or_first (is_passed (class_of c.code))
 pub record Worked {S U : Type 0} (m : Meaning S U) (v : Values S U) (st : Standing) (g : List Command) (part asking : List Dss) (u : U) : Type 0 where
   -- while the unit of work hasn't ended the session stands where it stood
   pub opened : has_ended g part ≡ false → v.stands st u
-  -- after its end, where the registers say, at the base where release is granted
+  -- after its end it stands where the registers say, at the base where release is granted
   pub released : has_ended g part ≡ true → is_granted g asking ≡ true → (log_with st (sets_of g asking)).fault ≡ None
       → u ≡ m.base (after_end st (sets_of g asking))
-  pub held : has_ended g part ≡ true → is_granted g asking ≡ false → (log_with st (sets_of g asking)).fault ≡ None
-      → v.stands (after_end st (sets_of g asking)) u
+  pub held : has_ended g part ≡ true → (log_with st (sets_of g asking)).fault ≡ None → v.stands (after_end st (sets_of g asking)) u
 
 pub worked_start : {S U : Type 0} (m : Meaning S U) (v : Values S U) (st : Standing) (g : List Command) (u : U) → v.stands st u → Worked m v st g [] [] u
 worked_start m v st g u at = record { opened = λ e. at; released = λ e. absurd (true≢false (sym e)); held = λ e. absurd (true≢false (sym e)) }
@@ -155,11 +153,11 @@ not_released : (d : Option Dss) (code value : ℕ) → is_some d ≡ false → e
 not_released None code value e = refl
 not_released (Some d) code value e = absurd (true≢false e)
 
-pub worked_run : {S U : Type 0} {m : Meaning S U} {v : Values S U} → Laws m v → EndsFit m v → (st : Standing) (s : S) (u : U) → v.shared s → v.unit u
+pub worked_run : {S U : Type 0} {m : Meaning S U} {v : Values S U} → Laws m v → (st : Standing) (s : S) (u : U) → v.shared s → v.unit u
     → st.stage ≡ Accessed → (g : List Command) (ran : ℕ) (part asking : List Dss) (c : Command) (cs : List Command) → IsSegment g → is_work g ≡ true
     → IsCommand c → drop ran (numbered 1 g) ≡ c ∷ cs → AreUpTo ran part → AreUpTo ran asking → Worked m v st g part asking u
     → Worked m v st g (part ++ m.replies s u (unasked c)) (asking ++ m.replies s u (asked c)) (m.unit_after s u (unasked c))
-worked_run {S} {U} {m = m} {v = v} laws fit st s u sh un at g ran part asking c cs seg work is e up ups w = go (is_end c) refl
+worked_run {S} {U} {m = m} {v = v} laws st s u sh un at g ran part asking c cs seg work is e up ups w = go (is_end c) refl
   where
     r : List Dss
     r = m.replies s u (unasked c)
@@ -188,20 +186,20 @@ worked_run {S} {U} {m = m} {v = v} laws fit st s u sh un at g ran part asking c 
     }
     go true end =
         let last = end_is ran g c cs seg.cut e end in
-        let alike : ends a ≡ ends r = ends_alike c a r (fit s u c sh un is).1 (fit s u c sh un is).0 (laws.asking_same_replies s u c sh un is) in
+        let replies = laws.answered s u c sh un is in
+        let alike : ends a ≡ ends r =
+        ends_alike c (asked c) (unasked c) a r replies.1.each replies.0.each (laws.asking_same_replies s u c sh un is) in
         let ended : has_ended g (part ++ r) ≡ ends r = ap is_some (message_is ran g part r last up nr) in
         let granted : is_granted g (asking ++ a) ≡ releases a = ap (end_says _ _) (message_is ran g asking a last ups na) in
         let sets : sets_of g (asking ++ a) ≡ sets_in c a = sets_are_in ran g c asking a last (number ∙ omega arith) ups in
-        let same : releases a ≡ false → m.unit_after s u (asked c) ≡ m.unit_after s u (unasked c) = laws.asking_same_unit s u c sh un is in
         record {
           opened = λ f. let no : ends a ≡ false = alike ∙ sym ended ∙ f in
-              subst (v.stands st) (same (not_released (end_of a) _ _ no)) (laws.not_ended st s u c sh stood is at end no);
+              subst (v.stands st) (laws.asking_same_unit s u c sh un is (not_released (end_of a) _ _ no)) (laws.not_ended st s u c sh stood is at end no);
           released = λ f t fault. subst (λ ss. m.unit_after s u (unasked c) ≡ m.base (after_end st ss)) (sym sets)
               (laws.released st s u c sh stood is at end (alike ∙ sym ended ∙ f) (sym granted ∙ t)
               (ap (λ ss. (log_with st ss).fault) (sym sets) ∙ fault)).1;
-          held = λ f t fault. subst (λ ss. v.stands (after_end st ss) (m.unit_after s u (unasked c))) (sym sets)
-              (subst (v.stands (after_end st (sets_in c a))) (same (sym granted ∙ t))
-              (laws.held st s u c sh stood is at end (alike ∙ sym ended ∙ f) (sym granted ∙ t) (ap (λ ss. (log_with st ss).fault) (sym sets) ∙ fault)));
+          held = λ f fault. subst (λ ss. v.stands (after_end st ss) (m.unit_after s u (unasked c))) (sym sets)
+              (laws.held st s u c sh stood is at end (alike ∙ sym ended ∙ f) (ap (λ ss. (log_with st ss).fault) (sym sets) ∙ fault));
         }
 
 -- ---- commands of access
@@ -259,8 +257,8 @@ pub record Landed {S U : Type 0} (m : Meaning S U) (v : Values S U) (to : Standi
   pub stands : v.stands to u
   pub base : to.stage ≡ Accessed → u ≡ m.base to
 
-landed_base : {S U : Type 0} {m : Meaning S U} {v : Values S U} → Laws m v → (to : Standing) (u : U) → u ≡ m.base to → Landed m v to u
-landed_base {v = v} laws to u e = record { stands = subst (v.stands to) (sym e) (laws.at_base to); base = λ at. e }
+landed_base : {S U : Type 0} {m : Meaning S U} {v : Values S U} → Laws m v → (to : Standing) (u : U) → to.log ≡ [] → u ≡ m.base to → Landed m v to u
+landed_base {v = v} laws to u unset e = record { stands = subst (v.stands to) (sym e) (laws.unset_base to unset); base = λ at. e }
 
 secchk_other : (c : Command) → (c.code == secchk) ≡ true → is_end c ≡ false
 unfolding class_of
@@ -330,7 +328,7 @@ secchk_run {S} {U} {m = m} {v = v} laws st s u sh stood at d code is asking =
       stands = laws.admitted st s u c sh stood (record { code = is.code; sound = is.sound; size = is.size }) at (eqb-true d.code secchk code) e;
       base = λ f. absurd (stage_apart Accessed Checked refl refl (sym f));
     }
-    go false e = landed_base laws attached (m.unit_after s u c)
+    go false e = landed_base laws attached (m.unit_after s u c) refl
         (laws.not_admitted st s u c sh stood (record { code = is.code; sound = is.sound; size = is.size }) at (eqb-true d.code secchk code) e)
 
 -- ACCRDB alone
@@ -379,7 +377,7 @@ accrdb_run {S} {U} {m = m} {v = v} laws st s u sh stood at d code is asking =
         ∙ ap (λ (b : Bool). if b then accessed d.body st else st) (ap has_accrdbrm back ∙ access_same g r sizes)
 
     go : (b : Bool) → has_accrdbrm r ≡ b → Landed m v (if b then accessed d.body st else st) (m.unit_after s u c)
-    go true e = landed_base laws (accessed d.body st) (m.unit_after s u c) (laws.let_in st s u c sh stood ok at (eqb-true d.code accrdb code) e)
+    go true e = landed_base laws (accessed d.body st) (m.unit_after s u c) refl (laws.let_in st s u c sh stood ok at (eqb-true d.code accrdb code) e)
     go false e = record {
       stands = laws.not_let_in st s u c sh stood ok at (eqb-true d.code accrdb code) e;
       base = λ f. absurd (stage_apart Accessed Checked refl refl (sym f ∙ at));
