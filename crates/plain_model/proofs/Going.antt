@@ -27,6 +27,7 @@ use Rattle.plain_model.specs.Succeeds.{CanRepeat, Succeeds, EachRepeatSucceeds}
 use Rattle.plain_model.proofs.Puts.{put_same, put_other, put_holds}
 use Rattle.plain_model.proofs.Segments.{IsSegment, cons_nil, first_cut, numbered_segment, drop_segment}
 use Rattle.plain_model.proofs.Runs.{left_is}
+use Rattle.plain_model.proofs.Cores.{where_lost}
 use Rattle.plain_model.proofs.Accounts.{Account, new_account}
 use Rattle.plain_model.proofs.Keeps.{data_kept}
 use Rattle.plain_model.proofs.Answering.{seen_ended}
@@ -127,24 +128,13 @@ answer_going {S} {U} {m = m} {v = v} laws name q l r owed none g = go (register_
 -- ---- the conversation is lost
 
 lost_end : (o : Owed) (k : Core) → (lost_owing o k).end ≡ k.end
-lost_end Nothing k = cond_both {A = Core} (commit_sent k) (owes Unknown k)
-    (if k.spoken || k.pinned then owes Rerouted k else record k { sent = false }) (λ j. j.end ≡ k.end)
-    (λ e. refl) (λ e. cond_both {A = Core} (k.spoken || k.pinned) (owes Rerouted k) (record k { sent = false }) (λ j. j.end ≡ k.end)
-    (λ t. refl) (λ t. refl))
-lost_end Rerouted k = refl
-lost_end Unknown k = refl
+lost_end o k = where_lost (λ j. j.end ≡ k.end) o k (λ n e. refl) (λ n e. refl) refl
 
 abbrev CalmGood : {S U : Type 0} → Meaning S U → (S → Type 0) → Core → Type 0
 CalmGood {S} m is_shared k = Calm k ((t : S) → is_shared t → AreGood k.typdef (answers m t (m.base k.standing) k.again))
 
 lost_good : {S U : Type 0} (m : Meaning S U) (is_shared : S → Type 0) (o : Owed) (k : Core) → CalmGood m is_shared k → CalmGood m is_shared (lost_owing o k)
-lost_good m is_shared Nothing k g = cond_both {A = Core} (commit_sent k) (owes Unknown k)
-    (if k.spoken || k.pinned then owes Rerouted k else record k { sent = false }) (CalmGood m is_shared)
-    (λ e sp pi at t ts. tt)
-    (λ e. cond_both {A = Core} (k.spoken || k.pinned) (owes Rerouted k) (record k { sent = false }) (CalmGood m is_shared)
-    (λ f sp pi at t ts. tt) (λ f. g))
-lost_good m is_shared Rerouted k g = g
-lost_good m is_shared Unknown k g = g
+lost_good m is_shared o k g = where_lost (CalmGood m is_shared) o k (λ n e sp pi at t ts. tt) (λ n e sp pi at t ts. tt) g
 
 -- SETs leave a session where it stands
 sets_stand : {S U : Type 0} {m : Meaning S U} {v : Values S U} → Laws m v → (cs : List Command) (st : Standing) (s : S) (u : U) → st.stage ≡ Accessed

@@ -26,7 +26,7 @@ use Rattle.plain_model.specs.Sound.{IsSound, EachCoreIsSound}
 use Rattle.plain_model.proofs.Puts.{put_holds}
 use Rattle.plain_model.proofs.Replies.{all_append}
 use Rattle.plain_model.proofs.Runs.{and_true}
-use Rattle.plain_model.proofs.Cores.{settled_finished, after_unit}
+use Rattle.plain_model.proofs.Cores.{settled_finished, after_unit, where_lost}
 
 -- ---- the front
 
@@ -189,18 +189,14 @@ calm_sound name k s = record {
 }
 
 lost_sound_owing : (name : List ℕ) (o : Owed) (k : Core) → IsSound name k → IsSound name (lost_owing o k)
-lost_sound_owing name Nothing k s = cond_both {A = Core} (commit_sent k) (owes Unknown k)
-    (if k.spoken || k.pinned then owes Rerouted k else record k { sent = false }) (IsSound name)
-    (λ e. owes_sound name Unknown k unknown) (λ e. cond_both {A = Core} (k.spoken || k.pinned) (owes Rerouted k) (record k { sent = false })
-    (IsSound name) (λ t. owes_sound name Rerouted k rerouted) (λ t. calm_sound name k s))
+lost_sound_owing name o k s = where_lost (IsSound name) o k (λ n e. owes_sound name Unknown k unknown)
+    (λ n e. owes_sound name Rerouted k rerouted) (calm_sound name k s)
   where
     unknown : Unknown ≡ Nothing → ⊥
     unknown e = cc
 
     rerouted : Rerouted ≡ Nothing → ⊥
     rerouted e = cc
-lost_sound_owing name Rerouted k s = calm_sound name k s
-lost_sound_owing name Unknown k s = calm_sound name k s
 
 lost_sound : (name : List ℕ) (k : Core) → IsSound name k → IsSound name (lost k)
 unfolding lost

@@ -290,95 +290,96 @@ is_past Checked = false
 stage_apart : (a b : Stage) → is_past a ≡ true → is_past b ≡ false → a ≡ b → ⊥
 stage_apart a b e f g = true≢false (sym e ∙ ap is_past g ∙ f)
 
--- SECCHK alone
+-- ---- a command of access alone
+
+abbrev at_one : Command → Command
+at_one d = record d { corr = 1 }
+
+-- it asks for nothing, so that nothing is taken out of its replies
+record IsAlone {S U : Type 0} (m : Meaning S U) (s : S) (u : U) (d : Command) : Type 0 where
+  pub is : IsCommand (at_one d)
+  pub plain : unasked (at_one d) ≡ at_one d
+  pub back : replies_of (d ∷ []) (m.replies s u (at_one d)) ≡ map (given_back (d ∷ [])) (m.replies s u (at_one d))
+
+alone : {S U : Type 0} {m : Meaning S U} {v : Values S U} → Laws m v → (s : S) (u : U) → v.shared s → v.unit u → (d : Command) → is_end d ≡ false
+    → IsCommand d → IsAlone m s u d
+alone {m = m} laws s u sh un d other is =
+    let ok : IsCommand (at_one d) = record { code = is.code; sound = is.sound; size = is.size } in
+    let plain : unasked (at_one d) ≡ at_one d = passed_is (at_one d) other in
+    let r = m.replies s u (at_one d) in
+    let numbers : HaveNumber 1 r =
+    subst (λ (w : Command). HaveNumber 1 (m.replies s u w)) plain (replies_number laws s u sh un 0 (at_one d) ok refl) in
+    record {
+      is = ok;
+      plain = plain;
+      back = all_given_back (d ∷ []) r (numbered_others 0 (end_number (d ∷ [])) r (alone_end d other) numbers);
+    }
+
+abbrev LandsAlone : {S U : Type 0} → Meaning S U → Values S U → Standing → S → U → Command → List Dss → Type 0
+LandsAlone m v st s u d asking =
+    Landed m v (standing_after st (d ∷ []) (seen (d ∷ []) (m.replies s u (unasked (at_one d))) asking)) (m.unit_after s u (unasked (at_one d)))
+
+lands_alone : {S U : Type 0} (m : Meaning S U) (v : Values S U) (st to : Standing) (s : S) (u : U) (d : Command) (asking : List Dss)
+    → unasked (at_one d) ≡ at_one d → standing_after st (d ∷ []) (seen (d ∷ []) (m.replies s u (at_one d)) asking) ≡ to
+    → Landed m v to (m.unit_after s u (at_one d)) → LandsAlone m v st s u d asking
+lands_alone m v st to s u d asking plain leads landed =
+    subst (λ (w : Command). Landed m v (standing_after st (d ∷ []) (seen (d ∷ []) (m.replies s u w) asking)) (m.unit_after s u w)) (sym plain)
+    (subst (λ x. Landed m v x (m.unit_after s u (at_one d))) (sym leads) landed)
+
 pub secchk_run : {S U : Type 0} {m : Meaning S U} {v : Values S U} → Laws m v → (st : Standing) (s : S) (u : U) → v.shared s → v.stands st u
-    → st.stage ≡ Chosen → (d : Command) → (d.code == secchk) ≡ true → IsCommand d → (asking : List Dss)
-    → Landed m v (standing_after st (d ∷ []) (seen (d ∷ []) (m.replies s u (unasked (record d { corr = 1 }))) asking))
-    (m.unit_after s u (unasked (record d { corr = 1 })))
+    → st.stage ≡ Chosen → (d : Command) → (d.code == secchk) ≡ true → IsCommand d → (asking : List Dss) → LandsAlone m v st s u d asking
 unfolding stripped
 secchk_run {S} {U} {m = m} {v = v} laws st s u sh stood at d code is asking =
-    subst (λ (w : Command). Landed m v (standing_after st g (seen g (m.replies s u w) asking)) (m.unit_after s u w)) (sym plain)
-    (subst (λ to. Landed m v to (m.unit_after s u c)) (sym leads) (go (gives_admission r) refl))
+    lands_alone m v st (if gives_admission r then checked d.body st else attached) s u d asking a.plain leads (go (gives_admission r) refl)
   where
-    c : Command
-    c = record d { corr = 1 }
-
-    g : List Command
-    g = d ∷ []
-
-    plain : unasked c ≡ c
-    plain = passed_is c (secchk_other d code)
+    a : IsAlone m s u d
+    a = alone laws s u sh (laws.standing_unit st u stood) d (secchk_other d code) is
 
     r : List Dss
-    r = m.replies s u c
+    r = m.replies s u (at_one d)
 
-    numbers : HaveNumber 1 r
-    numbers = subst (λ (w : Command). HaveNumber 1 (m.replies s u w)) plain
-        (replies_number laws s u sh (laws.standing_unit st u stood) 0 c (record { code = is.code; sound = is.sound; size = is.size }) refl)
-
-    back : replies_of g r ≡ map (given_back g) r
-    back = all_given_back g r (numbered_others 0 (end_number g) r (alone_end d (secchk_other d code)) numbers)
-
-    leads : standing_after st g (seen g r asking) ≡ (if gives_admission r then checked d.body st else attached)
+    leads : standing_after st (d ∷ []) (seen (d ∷ []) r asking) ≡ (if gives_admission r then checked d.body st else attached)
     leads = cond-true (d.code == secchk) _ _ code
-        ∙ ap (λ (b : Bool). if b then checked d.body st else attached) (ap gives_admission back ∙ admission_same g r)
+        ∙ ap (λ (b : Bool). if b then checked d.body st else attached) (ap gives_admission a.back ∙ admission_same (d ∷ []) r)
 
-    go : (b : Bool) → gives_admission r ≡ b → Landed m v (if b then checked d.body st else attached) (m.unit_after s u c)
+    go : (b : Bool) → gives_admission r ≡ b → Landed m v (if b then checked d.body st else attached) (m.unit_after s u (at_one d))
     go true e = record {
-      stands = laws.admitted st s u c sh stood (record { code = is.code; sound = is.sound; size = is.size }) at (eqb-true d.code secchk code) e;
+      stands = laws.admitted st s u (at_one d) sh stood a.is at (eqb-true d.code secchk code) e;
       base = λ f. absurd (stage_apart Accessed Checked refl refl (sym f));
     }
-    go false e = landed_base laws attached (m.unit_after s u c) refl
-        (laws.not_admitted st s u c sh stood (record { code = is.code; sound = is.sound; size = is.size }) at (eqb-true d.code secchk code) e)
+    go false e =
+        landed_base laws attached (m.unit_after s u (at_one d)) refl (laws.not_admitted st s u (at_one d) sh stood a.is at (eqb-true d.code secchk code) e)
 
--- ACCRDB alone
 pub accrdb_run : {S U : Type 0} {m : Meaning S U} {v : Values S U} → Laws m v → (st : Standing) (s : S) (u : U) → v.shared s → v.stands st u
-    → st.stage ≡ Checked → (d : Command) → (d.code == accrdb) ≡ true → IsCommand d → (asking : List Dss)
-    → Landed m v (standing_after st (d ∷ []) (seen (d ∷ []) (m.replies s u (unasked (record d { corr = 1 }))) asking))
-    (m.unit_after s u (unasked (record d { corr = 1 })))
+    → st.stage ≡ Checked → (d : Command) → (d.code == accrdb) ≡ true → IsCommand d → (asking : List Dss) → LandsAlone m v st s u d asking
 unfolding stripped
 accrdb_run {S} {U} {m = m} {v = v} laws st s u sh stood at d code is asking =
-    subst (λ (w : Command). Landed m v (standing_after st g (seen g (m.replies s u w) asking)) (m.unit_after s u w)) (sym plain)
-    (subst (λ to. Landed m v to (m.unit_after s u c)) (sym leads) (go (has_accrdbrm r) refl))
+    lands_alone m v st (if has_accrdbrm r then accessed d.body st else st) s u d asking a.plain leads (go (has_accrdbrm r) refl)
   where
-    c : Command
-    c = record d { corr = 1 }
-
-    g : List Command
-    g = d ∷ []
-
-    ok : IsCommand c
-    ok = record { code = is.code; sound = is.sound; size = is.size }
-
-    plain : unasked c ≡ c
-    plain = passed_is c (accrdb_other d code)
-
-    r : List Dss
-    r = m.replies s u c
-
     un : v.unit u
     un = laws.standing_unit st u stood
 
-    numbers : HaveNumber 1 r
-    numbers = subst (λ (w : Command). HaveNumber 1 (m.replies s u w)) plain (replies_number laws s u sh un 0 c ok refl)
+    a : IsAlone m s u d
+    a = alone laws s u sh un d (accrdb_other d code) is
+
+    r : List Dss
+    r = m.replies s u (at_one d)
 
     sizes : AllByRecursion (λ d. is_object_of accrdbrm d ≡ true → length d.body ≤ most_reply_body) r
-    sizes = subst (λ (w : Command). AllByRecursion (λ d. is_object_of accrdbrm d ≡ true → length d.body ≤ most_reply_body) (m.replies s u w)) plain
-        (readable_size (unasked c) (m.replies s u (unasked c)) (laws.answered s u c sh un ok).0.each)
-
-    back : replies_of g r ≡ map (given_back g) r
-    back = all_given_back g r (numbered_others 0 (end_number g) r (alone_end d (accrdb_other d code)) numbers)
+    sizes = subst (λ (w : Command). AllByRecursion (λ d. is_object_of accrdbrm d ≡ true → length d.body ≤ most_reply_body) (m.replies s u w)) a.plain
+        (readable_size (unasked (at_one d)) (m.replies s u (unasked (at_one d))) (laws.answered s u (at_one d) sh un a.is).0.each)
 
     no_secchk : (d.code == secchk) ≡ false
     no_secchk = ap (λ n. n == secchk) (eqb-true d.code accrdb code)
 
-    leads : standing_after st g (seen g r asking) ≡ (if has_accrdbrm r then accessed d.body st else st)
+    leads : standing_after st (d ∷ []) (seen (d ∷ []) r asking) ≡ (if has_accrdbrm r then accessed d.body st else st)
     leads = cond-false (d.code == secchk) _ _ no_secchk ∙ cond-true (d.code == accrdb) _ _ code
-        ∙ ap (λ (b : Bool). if b then accessed d.body st else st) (ap has_accrdbrm back ∙ access_same g r sizes)
+        ∙ ap (λ (b : Bool). if b then accessed d.body st else st) (ap has_accrdbrm a.back ∙ access_same (d ∷ []) r sizes)
 
-    go : (b : Bool) → has_accrdbrm r ≡ b → Landed m v (if b then accessed d.body st else st) (m.unit_after s u c)
-    go true e = landed_base laws (accessed d.body st) (m.unit_after s u c) refl (laws.let_in st s u c sh stood ok at (eqb-true d.code accrdb code) e)
+    go : (b : Bool) → has_accrdbrm r ≡ b → Landed m v (if b then accessed d.body st else st) (m.unit_after s u (at_one d))
+    go true e = landed_base laws (accessed d.body st) (m.unit_after s u (at_one d)) refl
+        (laws.let_in st s u (at_one d) sh stood a.is at (eqb-true d.code accrdb code) e)
     go false e = record {
-      stands = laws.not_let_in st s u c sh stood ok at (eqb-true d.code accrdb code) e;
+      stands = laws.not_let_in st s u (at_one d) sh stood a.is at (eqb-true d.code accrdb code) e;
       base = λ f. absurd (stage_apart Accessed Checked refl refl (sym f ∙ at));
     }
