@@ -1,7 +1,6 @@
 -- What runs again succeeds, whatever happens: over all events.
-use Rattle.std.proofs.Common.{◌≡◌, ◌≢◌, ℕ, ◌||◌, true, false, not, if◌then◌else◌, List, [], ◌∷◌, ◌++◌}
+use Rattle.std.proofs.Common.{◌≡◌, ◌≢◌, ℕ, true, not, if◌then◌else◌, List, [], ◌∷◌, ◌++◌}
 use Rattle.std.proofs.Common.{Option, Some, None, ap, sym, refl, subst, ◌∙◌}
-use Rattle.std.proofs.lemmas.Bool.{cond_both}
 use Rattle.std.specs.List.{AllByRecursion, flat_map}
 use Rattle.dss_frame.specs.declared.dss.Dss.{Dss}
 use Rattle.ddm_codepoints.specs.CodeClass.{class_of}
@@ -15,10 +14,10 @@ use Rattle.unit_segments.specs.Accepts.{sets_only}
 use Rattle.plain_model.specs.Standing.{Standing, attached}
 use Rattle.plain_model.specs.UnitEnd.{unasked}
 use Rattle.plain_model.specs.Group.{Meaning, Values, Laws, IsCommand, Set, led, answers}
-use Rattle.plain_model.specs.Core.{Core, Owed, Nothing, Rerouted, Unknown, first, number_in, settled, finished, new_core}
+use Rattle.plain_model.specs.Core.{Core, Owed, Nothing, first, number_in, settled, finished, new_core}
 use Rattle.plain_model.specs.Begun.{Reading, Chain, Fault, TooLong, begun}
 use Rattle.plain_model.specs.Answered.{answered_core, answered_by, answered, register_fault, without_error}
-use Rattle.plain_model.specs.Lost.{commit_sent, owes, lost_owing, lost, accepted, none_left, closed, left}
+use Rattle.plain_model.specs.Lost.{lost_owing, lost, accepted, none_left, closed, left}
 use Rattle.plain_model.specs.Plain.{Session, State, Event, What, Begin, Sent, Run, Answer, Lose, RunLate, Accept, NoneLeft, Close, Leave, IsPossible}
 use Rattle.plain_model.specs.Plain.{ArePossible, new_session, start, plain, put, segment_of, seen_of, left_to_run, to_run, with_after, run_first, run_late}
 use Rattle.plain_model.specs.Plain.{session_after, after_event}

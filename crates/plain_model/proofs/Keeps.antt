@@ -1,14 +1,14 @@
 -- The values of all sessions stay the group's.
-use Rattle.std.proofs.Common.{ℕ, false, ◌||◌, if◌then◌else◌, List, [], ◌∷◌}
+use Rattle.std.proofs.Common.{ℕ, List, [], ◌∷◌}
 use Rattle.std.proofs.lemmas.Bool.{cond_both}
 use Rattle.std.specs.List.{AllByRecursion}
 use Rattle.unit_segments.specs.declared.command.Command.{Command}
 use Rattle.plain_model.specs.UnitEnd.{unasked}
 use Rattle.plain_model.specs.Group.{Meaning, Values, Laws, IsCommand, led}
-use Rattle.plain_model.specs.Core.{Core, Owed, Nothing, Rerouted, Unknown, After}
+use Rattle.plain_model.specs.Core.{Core, Owed, After}
 use Rattle.plain_model.specs.Begun.{begun}
 use Rattle.plain_model.specs.Answered.{answered}
-use Rattle.plain_model.specs.Lost.{commit_sent, owes, lost_owing, lost, accepted, none_left}
+use Rattle.plain_model.specs.Lost.{commit_sent, lost_owing, lost, accepted, none_left}
 use Rattle.plain_model.specs.Plain.{Session, InFlight, What, Begin, Sent, Run, Answer, Lose, RunLate, Accept, NoneLeft, Close, Leave, put}
 use Rattle.plain_model.specs.Plain.{segment_of, seen_of, to_run, data_run, data_after, with_after, run_first, run_late, lose, session_after}
 use Rattle.plain_model.proofs.Puts.{put_holds}

@@ -20,7 +20,7 @@ use Rattle.plain_model.specs.Core.{settle_by, settle_segments, settle_owed, sett
 use Rattle.plain_model.specs.Begun.{Reading, Chain, Fault, TooLong, begun}
 use Rattle.plain_model.specs.Answered.{standing_after, is_work, with_work, with_end, unit_after, answered_core, register_fault, answered_by}
 use Rattle.plain_model.specs.Answered.{answered}
-use Rattle.plain_model.specs.Lost.{commit_sent, owes, lost_owing, lost, accepted, none_left, closed, left}
+use Rattle.plain_model.specs.Lost.{owes, lost_owing, lost, accepted, none_left, closed, left}
 use Rattle.plain_model.specs.Plain.{Session, State, Event, What, Begin, Sent, Run, Answer, Lose, RunLate, Accept, NoneLeft, Close, Leave, IsPossible}
 use Rattle.plain_model.specs.Plain.{ArePossible, new_session, start, plain, put, segment_of, seen_of, to_run, run_first, run_late, session_after}
 use Rattle.plain_model.specs.Plain.{after_event}

@@ -1,5 +1,5 @@
 -- The core of every session stays sound.
-use Rattle.std.proofs.Common.{◌≡◌, ℕ, ◌==◌, ◌&&◌, ◌||◌, not, true, false, if◌then◌else◌, List, [], ◌∷◌, ◌++◌, Option, Some, None, ap, sym, refl}
+use Rattle.std.proofs.Common.{◌≡◌, ℕ, ◌==◌, ◌&&◌, not, true, false, if◌then◌else◌, List, [], ◌∷◌, ◌++◌, Option, Some, None, ap, sym, refl}
 use Rattle.std.proofs.Common.{subst, ◌∙◌, true≢false, eqb-true}
 use Rattle.std.proofs.lemmas.Bool.{cond_both}
 use Rattle.std.specs.List.{AllByRecursion}
@@ -19,7 +19,7 @@ use Rattle.plain_model.specs.Core.{settle_segments, settle_owed, settled, finish
 use Rattle.plain_model.specs.Begun.{Reading, Chain, Fault, TooLong, begun}
 use Rattle.plain_model.specs.Answered.{fit, without_error, joins_again, with_work, with_end, is_work, unit_after, answered_core, answered_by}
 use Rattle.plain_model.specs.Answered.{register_fault, answered}
-use Rattle.plain_model.specs.Lost.{commit_sent, owes, lost_owing, lost, accepted, none_left, closed, left}
+use Rattle.plain_model.specs.Lost.{owes, lost_owing, lost, accepted, none_left, closed, left}
 use Rattle.plain_model.specs.Plain.{Session, State, Event, What, Begin, Sent, Run, Answer, Lose, RunLate, Accept, NoneLeft, Close, Leave, IsPossible}
 use Rattle.plain_model.specs.Plain.{ArePossible, seen_of, to_run, run_first, run_late, session_after, after_event, start, plain}
 use Rattle.plain_model.specs.Sound.{IsSound, EachCoreIsSound}

@@ -1,11 +1,11 @@
 -- What is told of a loss, what stays in work, and how many commits there are.
 use Rattle.std.proofs.Common.{◌≡◌, inl, inr, ℕ, suc, ◌||◌, Bool, true, false, if◌then◌else◌, List, [], ◌∷◌, length, Option, Some, None, is_some, ap}
 use Rattle.std.proofs.Common.{sym, refl, ◌∙◌, arith, true≢false}
-use Rattle.std.proofs.lemmas.Bool.{cond_both, cond-false}
+use Rattle.std.proofs.lemmas.Bool.{cond-false}
 use Rattle.unit_segments.specs.declared.command.Command.{Command}
 use Rattle.unit_segments.specs.Strip.{has_ended, is_committed}
 use Rattle.plain_model.specs.Group.{Meaning}
-use Rattle.plain_model.specs.Core.{Core, Owed, Nothing, Rerouted, Unknown}
+use Rattle.plain_model.specs.Core.{Core, Owed, Rerouted, Unknown}
 use Rattle.plain_model.specs.Lost.{commit_sent, owes, lost_owing, lost}
 use Rattle.plain_model.specs.Plain.{Session, Begin, Sent, Run, Answer, Lose, RunLate, Accept, NoneLeft, Close, Leave, segment_of, to_run, run_first}
 use Rattle.plain_model.specs.Plain.{run_late, after_event}
