@@ -193,8 +193,7 @@ is_within count p t j e lasts =
 pub within_all : (count : ℕ) (p : List ℕ) (t : Talking) → length p ≤ room_of t → (judged_all count p t ≡ judged_piece count p t) × (read_all p t ≡ read_in p t)
 within_all count p t fits =
     let none : beyond p t ≡ [] = drop_of_length-le p fits in
-    let all = all_within (room_of t) p none in
-    (
+    let all = all_within (room_of t) p none in (
       ap (λ (xs : List ℕ). with_beyond (judged_piece count (within p t) t) count xs (read_in (within p t) t)) none
           ∙ ap (λ (xs : List ℕ). judged_piece count xs t) all,
       ap (λ (xs : List ℕ). after_beyond xs (read_in (within p t) t)) none ∙ ap (λ (xs : List ℕ). read_in xs t) all,

@@ -266,8 +266,7 @@ reply_of count at bytes t are fits e =
     ap (λ (ps : List Placed). judged count 1 ps (rest_of r)) (sym h.whole)
     ∙ ap (λ (w : View). judged count 1 w.whole (rest_of w)) (sym same) ∙ e in
     let w = whole_of h.spelled count 1 33554432 (reader_at at).position (rest_of r) judged_now in
-    let rest = no_rest v r h (none_begun r.open w.begun) w.fault in
-    (
+    let rest = no_rest v r h (none_begun r.open w.begun) w.fault in (
       map (λ s. s.dss) h.spelled,
       record {
         spelled = h.spelled;
@@ -340,8 +339,7 @@ only_by segment rounds at bytes t s are e =
     let h = is_within count bytes u Ends ends.0 ends_open in
     let r = reply_of count at bytes t are h.fits h.judged in
     let w : Talking = read_in bytes u in
-    let answered : (ended (Work segment) rounds w).got ≡ Whole s = ap (λ (x : Talking). (ended (Work segment) rounds x).got) (sym h.read) ∙ ends.1 in
-    (
+    let answered : (ended (Work segment) rounds w).got ≡ Whole s = ap (λ (x : Talking). (ended (Work segment) rounds x).got) (sym h.read) ∙ ends.1 in (
       r.0,
       r.1,
       stripped_as (are_readable w.replies) segment w _ _ s refl refl answered ∙ ap (stripped segment) (reply_kept count at r.0 bytes t r.1),

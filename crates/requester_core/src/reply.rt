@@ -123,12 +123,18 @@ fn judge_rest(numbers: Numbers, rest: Rest) -> Judged
     match rest.fault {
         None => numbers.judge_told(rest.place, rest.number, Judged::GoesOn),
         Some(StreamFault::TooLong { corr, .. }) => numbers.judge(rest.place, corr, Judged::Passes),
-        Some(StreamFault::Frame { at, why, corr }) => numbers.judge_field(rest.place, at, why, corr),
+        Some(StreamFault::Frame { at, why, corr }) => numbers.judge_field(
+            rest.place, at, why, corr,
+        ),
     }
 }
 
 /// What the first byte beyond the limit comes to, behind what this reader read of a reply that goes on.
-pub(crate) fn judge_byte(numbers: Numbers, reader: &mut Reader, byte: u8) -> Result<Judged, NoMemory>
+pub(crate) fn judge_byte(
+    numbers: Numbers,
+    reader: &mut Reader,
+    byte: u8,
+) -> Result<Judged, NoMemory>
     ensures { IfOk result (λ judged. judged ≡ judged_byte numbers.count numbers.least reader.old byte) }
 {
     let place = reader.place();
