@@ -1,0 +1,9 @@
+pub mod Lost
+pub mod Replay
+pub mod Round
+pub mod Reply
+pub mod Judging
+pub mod Talk
+pub mod Laws
+pub mod Calls
+pub mod Grammar
