@@ -23,6 +23,7 @@ echo 'frames: link_ends dss_frame' >>"$folder/crates.txt"
 
 # `rt run` builds with LLVM's optimization. What it says of the proof and the build goes to its standard error.
 cd "$folder/crates/frames"
+echo "frames.sh: proving and building the program; this takes some minutes" >&2
 if ! rt run >first 2>log </dev/null; then
     tail -n 20 log >&2
     exit 1
