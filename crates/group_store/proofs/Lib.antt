@@ -1,3 +1,4 @@
 mod Sound
 mod Registers
 mod TakingBack
+pub mod GroupLaws

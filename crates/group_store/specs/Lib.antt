@@ -9,3 +9,4 @@ pub mod Query
 pub mod UnitEnd
 pub mod Store
 pub mod Setup
+pub mod Values

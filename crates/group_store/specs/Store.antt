@@ -107,5 +107,5 @@ base st = base_at st.stage st.access st.log
 
 -- ---- what the commands mean: a group of members
 
-pub store_meaning : Meaning StoreState UnitState
+abbrev pub store_meaning : Meaning StoreState UnitState
 store_meaning = record { fresh = fresh; base = base; data_after = data_after; unit_after = unit_after; replies = replies }

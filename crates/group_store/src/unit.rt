@@ -1,4 +1,4 @@
-ghost use Rattle.std.specs.Prelude.{◌≡◌, filter, IfOk, OnOk};
+ghost use Rattle.std.specs.Prelude.{◌≡◌, filter, IfOk, OnOk, OnErr};
 ghost use Rattle.member_statements.specs.Register.{IsRegister};
 ghost use Rattle.group_store.specs.Unit.{nothing_at, checked_as, accessed_as, schema_of, after_commit, after_roll_back};
 ghost use Rattle.group_store.specs.Execute.{place_in, writes, with_value};
@@ -145,8 +145,7 @@ impl StoreUnit {
         requires { IsRegister register }
         ensures { OnOk result (self.new ≡ record self.old { registers = with_value register value self.old.registers }) }
     {
-        self.registers.insert(register, value)?;
-        Ok(())
+        put_register(&mut self.registers, register, value)
     }
 
     /// The unit of work is committed: what is prepared and the cursors that aren't held are dropped. Its writes are handed out.
@@ -167,6 +166,19 @@ impl StoreUnit {
         self.prepared.clear();
         self.cursors.clear();
     }
+}
+
+/// Gives a register this value. After want of memory nothing is changed.
+fn put_register(
+    registers: &mut BTreeMap<Register, Text>,
+    register: Register,
+    value: Text,
+) -> Result<(), NoMemory>
+    ensures ok { OnOk result (registers.new.entries ≡ with_value register value registers.old.entries) }
+    ensures err { OnErr result (registers.new.entries ≡ registers.old.entries) }
+{
+    registers.insert(register, value)?;
+    Ok(())
 }
 
 /// Drops the cursors that a commit doesn't hold.
