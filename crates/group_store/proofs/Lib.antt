@@ -1,4 +1,3 @@
 mod Sound
 mod Registers
 mod TakingBack
-pub mod GroupLaws

@@ -10,3 +10,4 @@ pub mod UnitEnd
 pub mod Store
 pub mod Setup
 pub mod Values
+pub mod GroupLaws

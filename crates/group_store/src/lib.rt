@@ -19,4 +19,6 @@ pub use store::Store;
 pub use unit::StoreUnit;
 
 #[cfg(test)]
+mod conversation_tests;
+#[cfg(test)]
 mod tests;

@@ -3,7 +3,9 @@ ghost use Rattle.ddm_codepoints.specs.CodePoint.{rdbcmm};
 ghost use Rattle.unit_segments.specs.Command.{data_of};
 ghost use Rattle.member_replies.specs.Reply.{dsss_of};
 ghost use Rattle.group_store.specs.Access.{secchkcd_of, secchk_answered};
-ghost use Rattle.group_store.specs.Store.{StoreState, empty_store, is_known, done, commits_now, answered, data_after, unit_after, replies, fresh};
+ghost use Rattle.group_store.specs.Store.{StoreState, empty_store, is_known, done, store_meaning};
+ghost use Rattle.group_store.specs.Values.{IsUnit, Stands};
+ghost use Rattle.group_store.specs.GroupLaws.All.{store_laws};
 
 use crate::access::{accrdb, accsec, asks_password, excsat, has_password, name_in, user_in};
 use crate::execute::excsqlset;
@@ -21,6 +23,7 @@ use ddm_codepoints::code_point::{
 use ddm_codepoints::value::{ADMITTED, ERROR, INFO};
 use dss_frame::DssList;
 use link_ends::NoMemory;
+use plain_model::Group;
 use reply_texts::{cmdnsp, prccnv};
 use std::alloc::Global;
 use std::collections::BTreeMap;
@@ -71,23 +74,26 @@ impl Store {
     {
         self.commits
     }
+}
 
-    /// The unit of a conversation in which nothing was said.
-    pub fn fresh(&self) -> Result<StoreUnit, NoMemory>
-        ensures { IfOk result (λ unit. unit ≡ fresh) }
-    {
+impl Group for Store {
+    type Unit = StoreUnit;
+
+    ghost meaning = { store_meaning };
+
+    ghost is_shared = { λ shared. Unit {0} };
+
+    ghost is_unit = { IsUnit };
+
+    ghost stands = { Stands };
+
+    fn fresh(&self) -> Result<StoreUnit, NoMemory> {
         Ok(StoreUnit::at(self.alloc, Stage::New))
     }
 
-    /// Runs one command, and answers it. A command that isn't known is answered CMDNSPRM at every stage, and one that the stage
-    /// doesn't allow PRCCNVRM. After want of memory the data are as before, and the unit can only be dropped.
+    /// A command that isn't known is answered CMDNSPRM at every stage, and one that the stage doesn't allow PRCCNVRM.
     #[tactic(auto, unfolding(crate::specs::Store::answered, crate::specs::Store::data_after, crate::specs::Store::unit_after, crate::specs::Store::replies))]
-    pub fn exec(&mut self, unit: &mut StoreUnit, command: &Command) -> Result<DssList, NoMemory>
-        ensures replies { IfOk result (λ given. given ≡ replies self.old unit.old command.now) }
-        ensures shared { OnOk result (self.new ≡ data_after self.old unit.old command.now) }
-        ensures unit { OnOk result (unit.new ≡ unit_after self.old unit.old command.now) }
-        ensures no_memory { OnErr result (self.new ≡ self.old) }
-    {
+    fn exec(&mut self, unit: &mut StoreUnit, command: &Command) -> Result<DssList, NoMemory> {
         let alloc = self.alloc;
         let code = command.code;
         if !is_known(code) {
@@ -102,6 +108,10 @@ impl Store {
         self.do_other(unit, command)
     }
 
+    ghost laws = { store_laws };
+}
+
+impl Store {
     /// Runs a command that is known, that the stage allows, and that isn't RDBCMM.
     fn do_other(&self, unit: &mut StoreUnit, command: &Command) -> Result<DssList, NoMemory>
         requires known { IsTrue (is_known command.now.code) }

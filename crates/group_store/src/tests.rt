@@ -6,34 +6,35 @@ use ddm_codepoints::code_point::{
     RDBRLLBCK, SECCHK,
 };
 use link_ends::{Octets, Sequence};
+use plain_model::Group;
 use reply_texts::encode;
 use std::alloc::Global;
 use std::test::Fail;
 use unit_segments::{Command, join_replies};
 
 /// EXCSAT with AGENT, SQLAM, RDB and SECMGR at level 7, and CMNTCPIP at level 5.
-const HELLO: [u8; 28] = [
+pub(crate) const HELLO: [u8; 28] = [
     0x00, 0x1C, 0x10, 0x41, 0x00, 0x18, 0x14, 0x04, 0x14, 0x03, 0x00, 0x07, 0x24, 0x07, 0x00, 0x07,
     0x24, 0x0F, 0x00, 0x07, 0x14, 0x40, 0x00, 0x07, 0x14, 0x74, 0x00, 0x05,
 ];
 
 /// ACCSEC with mechanism 3.
-const MECHANISM: [u8; 10] = [0x00, 0x0A, 0x10, 0x6D, 0x00, 0x06, 0x11, 0xA2, 0x00, 0x03];
+pub(crate) const MECHANISM: [u8; 10] = [0x00, 0x0A, 0x10, 0x6D, 0x00, 0x06, 0x11, 0xA2, 0x00, 0x03];
 
 /// SECCHK of ALICE with the password SECRET.
-const USER: [u8; 29] = [
+pub(crate) const USER: [u8; 29] = [
     0x00, 0x1D, 0x10, 0x6E, 0x00, 0x06, 0x11, 0xA2, 0x00, 0x03, 0x00, 0x09, 0x11, 0xA0, 0xC1, 0xD3,
     0xC9, 0xC3, 0xC5, 0x00, 0x0A, 0x11, 0xA1, 0xE2, 0xC5, 0xC3, 0xD9, 0xC5, 0xE3,
 ];
 
 /// ACCRDB of SAMPLE with QTDSQL370.
-const DATABASE: [u8; 27] = [
+pub(crate) const DATABASE: [u8; 27] = [
     0x00, 0x1B, 0x20, 0x01, 0x00, 0x0D, 0x00, 0x2F, 0xD8, 0xE3, 0xC4, 0xE2, 0xD8, 0xD3, 0xF3, 0xF7,
     0xF0, 0x00, 0x0A, 0x21, 0x10, 0xE2, 0xC1, 0xD4, 0xD7, 0xD3, 0xC5,
 ];
 
 /// RDBCMM that asks for release and for SET statements.
-const COMMIT: [u8; 14] = [
+pub(crate) const COMMIT: [u8; 14] = [
     0x00, 0x0E, 0x20, 0x0E, 0x00, 0x05, 0x11, 0x9F, 0xF2, 0x00, 0x05, 0x21, 0x0E, 0xF1,
 ];
 
@@ -46,7 +47,7 @@ const DONE: [u8; 11] = [
 ];
 
 /// A store with the user ALICE, and a row with key 1.
-fn store(alloc: Global) -> Result<Store, Fail> {
+pub(crate) fn store(alloc: Global) -> Result<Store, Fail> {
     let mut store = Store::new(alloc);
     if !store.add_user(b"ALICE", b"SECRET")? || !store.add_row(b"ALICE", 1, b"A")? {
         return Err(Fail::from("a user and a row"));
@@ -87,7 +88,7 @@ fn ask(
 }
 
 /// A SQLSTT or a SQLATTR, below 256 bytes, with this text in EBCDIC.
-fn text_object(alloc: Global, code: [u8; 2], text: &[u8]) -> Result<Octets, Fail> {
+pub(crate) fn text_object(alloc: Global, code: [u8; 2], text: &[u8]) -> Result<Octets, Fail> {
     let mut coded = Vec::from_slice(alloc, text)?;
     encode(&mut coded, TypDef::Sql370);
     let size = u8::try_from(text.len())?;

@@ -14,3 +14,4 @@ pub mod UnitEnds
 pub mod Access
 pub mod SetsAlone
 pub mod Standing
+pub mod All

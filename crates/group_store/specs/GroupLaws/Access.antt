@@ -14,6 +14,7 @@ use Rattle.ddm_codepoints.specs.declared.typdef.TypDef.{TypDef}
 use Rattle.ddm_codepoints.specs.declared.typdef.TypDef.TheVariants.{SqlAsc}
 use Rattle.ddm_codepoints.specs.Character.{ebcdic_of}
 use Rattle.ddm_codepoints.specs.TypDef.{typdef_of}
+use Rattle.ddm_codepoints.specs.CodeClass.{class_of}
 use Rattle.ddm_codepoints.specs.CodePoint as point
 use Rattle.ddm_codepoints.specs.Value.{info, error, admitted}
 use Rattle.reply_texts.specs.Reply.{cmdnsp_object, prccnv_object}
@@ -39,9 +40,9 @@ use Rattle.group_store.specs.Access.{Users, to_accsec, accsec_answered, secchkcd
 use Rattle.group_store.specs.Execute.{excsqlset_answered}
 use Rattle.group_store.specs.Store.{StoreState, is_known, done, answered, data_after, unit_after, replies, fresh, with_log, base_at, base, store_meaning}
 use Rattle.group_store.specs.Values.{store_values}
-use Rattle.group_store.proofs.GroupLaws.Cases.{IsNow}
-use Rattle.group_store.proofs.GroupLaws.Replies.{accsec_by}
-use Rattle.group_store.proofs.GroupLaws.Same.{data_by_code}
+use Rattle.group_store.specs.GroupLaws.Cases.{IsNow}
+use Rattle.group_store.specs.GroupLaws.Replies.{accsec_by}
+use Rattle.group_store.specs.GroupLaws.Same.{data_by_code}
 
 -- ---- which answer it is
 
@@ -164,7 +165,7 @@ own_accrdb s typ mechanism user body e =
 
 own_set : (s : StoreState) (user : List ℕ) (typdef : TypDef) (log : List Logged)
     → unit_after s (accessed_as user typdef) (set_command log) ≡ with_log (accessed_as user typdef) log
-unfolding unit_after answered
+unfolding unit_after answered class_of
 own_set s user typdef log = refl
 
 no_log : (u : UnitState) → with_log u [] ≡ u

@@ -25,8 +25,8 @@ use Rattle.group_store.specs.Statement.{is_object_with, data_with, statement_in}
 use Rattle.group_store.specs.Execute.{AfterSets as Set_all, set_by, after_sets, with_value, with_sets as unit_with, excsqlset_answered}
 use Rattle.group_store.specs.Store.{with_log}
 use Rattle.group_store.specs.Values.{IsSet, set_data, logged}
-use Rattle.group_store.proofs.GroupLaws.Registers.{Entry, rank, with_values, has_entry, in_place, told_one, told_all}
-use Rattle.group_store.proofs.GroupLaws.SetTexts.{data_short, read_back, same_keys}
+use Rattle.group_store.specs.GroupLaws.Registers.{Entry, rank, with_values, has_entry, in_place, told_one, told_all}
+use Rattle.group_store.specs.GroupLaws.SetTexts.{data_short, read_back, same_keys}
 
 -- ---- what is kept
 

@@ -31,13 +31,13 @@ use Rattle.group_store.specs.Execute.{excsqlset_answered}
 use Rattle.group_store.specs.UnitEnd.{has_no_cursor}
 use Rattle.group_store.specs.Store.{StoreState, answered, unit_after, replies, with_log, base_at, base}
 use Rattle.group_store.specs.Values.{IsSet, AreSet, set_data, logged, IsAmong, HasRegister, IsAccessed, StandsAt, Stands, IsUnit}
-use Rattle.group_store.proofs.GroupLaws.Registers.{Entry, of_each, to_each, with_values, all_set, has_told, set_again, told_all, told_among, told_alone}
-use Rattle.group_store.proofs.GroupLaws.Ends.{it_ends, it_releases, it_tells, ended_replies}
-use Rattle.group_store.proofs.GroupLaws.Logs.{log_after, set_again_is}
-use Rattle.group_store.proofs.GroupLaws.Units.{unit_kept_is, kept_excsqlset, stays_accessed}
-use Rattle.group_store.proofs.GroupLaws.UnitEnds.{left, Both, both_of, is_now}
-use Rattle.group_store.proofs.GroupLaws.Asking.{ends_code}
-use Rattle.group_store.proofs.GroupLaws.Access.{secchk_is, accrdb_is, secchk_leads, accrdb_leads, base_there, checked_base, attached_base, accessed_base}
+use Rattle.group_store.specs.GroupLaws.Registers.{Entry, of_each, to_each, with_values, all_set, has_told, set_again, told_all, told_among, told_alone}
+use Rattle.group_store.specs.GroupLaws.Ends.{it_ends, it_releases, it_tells, ended_replies}
+use Rattle.group_store.specs.GroupLaws.Logs.{log_after, set_again_is}
+use Rattle.group_store.specs.GroupLaws.Units.{unit_kept_is, kept_excsqlset, stays_accessed}
+use Rattle.group_store.specs.GroupLaws.UnitEnds.{left, Both, both_of, is_now}
+use Rattle.group_store.specs.GroupLaws.Asking.{ends_code}
+use Rattle.group_store.specs.GroupLaws.Access.{secchk_is, accrdb_is, secchk_leads, accrdb_leads, base_there, checked_base, attached_base, accessed_base}
 
 no_registers : AreSet []
 no_registers = record { each = tt; order = tt }
@@ -202,8 +202,8 @@ both_there st s u c is command ends = both_of s u c command ends (is_now u c.cod
 
 pub it_has_ended : (st : Standing) (s : StoreState) (u : UnitState) (c : Command) → IsAccessed st u → IsCommand c → ends_unit (class_of c.code) ≡ true
     → ends (replies s u (asked c)) ≡ true
-it_has_ended st s u c is command ends =
-    let both = both_there st s u c is command ends in
+it_has_ended st s u c is command end =
+    let both = both_there st s u c is command end in
     let kept : UnitState = left u both.cursors in
     ap ends both.asked_replies ∙ it_ends c.corr both.disposition both.outcome kept (has_no_cursor kept) true
 

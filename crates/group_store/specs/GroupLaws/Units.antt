@@ -39,9 +39,9 @@ use Rattle.group_store.specs.Query.{clsqry_answered}
 use Rattle.group_store.specs.UnitEnd.{asks_release, asks_sets, has_no_cursor, ends_with, ended, rdbcmm_answered, rdbrllbck_answered}
 use Rattle.group_store.specs.Store.{StoreState, answered, unit_after}
 use Rattle.group_store.specs.Values.{IsSet, AreSet, IsAmong, HasRegister, IsAccessed, IsUnit}
-use Rattle.group_store.proofs.GroupLaws.Cases.{IsNow, AllCases, answered_by}
-use Rattle.group_store.proofs.GroupLaws.Replies.{excsat_by, accsec_by}
-use Rattle.group_store.proofs.GroupLaws.Registers.{Entry, still_set, keeps_register}
+use Rattle.group_store.specs.GroupLaws.Cases.{IsNow, AllCases, answered_by}
+use Rattle.group_store.specs.GroupLaws.Replies.{excsat_by, accsec_by}
+use Rattle.group_store.specs.GroupLaws.Registers.{Entry, still_set, keeps_register}
 
 -- ---- registers that statements set
 

@@ -14,7 +14,7 @@ use Rattle.group_store.specs.Unit.{UnitState}
 use Rattle.group_store.specs.Answered.{Answered, refuses}
 use Rattle.group_store.specs.Execute.{excsqlset_answered}
 use Rattle.group_store.specs.Store.{StoreState, is_known, done, answered, data_after, unit_after, replies, store_meaning}
-use Rattle.group_store.proofs.GroupLaws.UnitEnds.{unasked_code}
+use Rattle.group_store.specs.GroupLaws.UnitEnds.{unasked_code}
 
 done_set : (s : StoreState) (u : UnitState) (d : Command) → d.code ≡ excsqlset → done s u d ≡ excsqlset_answered u d
 done_set s u d e =

@@ -49,13 +49,13 @@ use Rattle.group_store.specs.Unit.{UnitState, Registers, CursorState, nothing_at
 use Rattle.group_store.specs.Answered.{Answered, says, refuses}
 use Rattle.group_store.specs.Access.{Users, with_levels, to_excsat, are_read, excsat_answered, to_accsec, accsec_answered, secchkcd_of, secchk_answered, typdef_in, by_typdef}
 use Rattle.group_store.specs.Access.{accrdb_answered}
-use Rattle.group_store.specs.Statement.{is_object_with, first_statement, section_of}
+use Rattle.group_store.specs.Statement.{is_object_with, data_with, first_statement, section_of}
 use Rattle.group_store.specs.Execute.{sees, inserted, replaced, statement_done, excsqlimm_answered, excsqlset_answered, with_sets, after_sets, writes}
 use Rattle.group_store.specs.Query.{in_section, is_select, prepared, prpsqlstt_answered, opens, opnqry_answered, fetched, fetches, cntqry_answered, closes, clsqry_answered}
 use Rattle.group_store.specs.UnitEnd.{asks_release, asks_sets, has_no_cursor, ends_with, ended, rdbcmm_answered, rdbrllbck_answered}
 use Rattle.group_store.specs.Store.{StoreState, answered}
-use Rattle.group_store.proofs.GroupLaws.WrittenCodes.{is_no_other}
-use Rattle.group_store.proofs.GroupLaws.Cases.{AllCases, answered_by}
+use Rattle.group_store.specs.GroupLaws.WrittenCodes.{is_no_other}
+use Rattle.group_store.specs.GroupLaws.Cases.{AllCases, answered_by}
 
 -- ---- what is said
 
@@ -203,7 +203,7 @@ IsFineAnswer a = AreFine a.said
 
 fine_excsat : (u : UnitState) (params : List ℕ) → IsFineAnswer (excsat_answered u params)
 fine_excsat u params = cond_both (are_read params) (to_excsat u (excsat_answer params)) (refuses u (cmdnsp_object point.excsat)) IsFineAnswer
-    (λ e. excsat_by (λ a. IsFineAnswer (to_excsat u a)) (λ levels. one _ (levels_fine _))
+    (λ e. excsat_by (λ a. IsFineAnswer (to_excsat u a)) (λ levels. one _ (levels_fine (parameter (data_of (excsatrd_object levels)) point.mgrlvlls)))
     (one _ low_fine) params)
     (λ e. one _ (cmdnsp_fine point.excsat))
 
@@ -238,14 +238,14 @@ fine_rdbrllbck u c = fine_end rolled_back outcome.Success (after_roll_back u) (a
 
 fine_statement : (rows : Rows) (commits : ℕ) (u : UnitState) (statement : Option Statement) → IsFineAnswer (statement_done rows commits u statement)
 fine_statement rows commits u (Some (Insert key text)) =
-    cond_both (is_some (sees rows u key)) _ _ IsFineAnswer (λ e. one _ (card_fine _)) (λ e. one _ (card_fine _))
+    cond_both (is_some (sees rows u key)) _ _ IsFineAnswer (λ e. one _ (card_fine outcome.Duplicate)) (λ e. one _ (card_fine outcome.Success))
 fine_statement rows commits u (Some (Update key text)) =
-    cond_both (is_some (sees rows u key)) _ _ IsFineAnswer (λ e. one _ (card_fine _)) (λ e. one _ (card_fine _))
+    cond_both (is_some (sees rows u key)) _ _ IsFineAnswer (λ e. one _ (card_fine outcome.Success)) (λ e. one _ (card_fine outcome.NotFound))
 fine_statement rows commits u (Some (Delete key)) =
-    cond_both (is_some (sees rows u key)) _ _ IsFineAnswer (λ e. one _ (card_fine _)) (λ e. one _ (card_fine _))
-fine_statement rows commits u (Some (Set register value)) = one _ (card_fine _)
-fine_statement rows commits u (Some Select) = one _ (card_fine _)
-fine_statement rows commits u None = one _ (card_fine _)
+    cond_both (is_some (sees rows u key)) _ _ IsFineAnswer (λ e. one _ (card_fine outcome.Success)) (λ e. one _ (card_fine outcome.NotFound))
+fine_statement rows commits u (Some (Set register value)) = one _ (card_fine outcome.Success)
+fine_statement rows commits u (Some Select) = one _ (card_fine outcome.NoStatement)
+fine_statement rows commits u None = one _ (card_fine outcome.NoStatement)
 
 fine_excsqlimm : (rows : Rows) (commits : ℕ) (u : UnitState) (c : Command) → IsFineAnswer (excsqlimm_answered rows commits u c)
 unfolding excsqlimm_answered
@@ -253,15 +253,17 @@ fine_excsqlimm rows commits u c = fine_statement rows commits u (first_statement
 
 fine_excsqlset : (u : UnitState) (c : Command) → IsFineAnswer (excsqlset_answered u c)
 unfolding excsqlset_answered
-fine_excsqlset u c = cond_both (list_any (is_object_with point.sqlstt) c.objects) _ _ IsFineAnswer (λ e. one _ (card_fine _)) (λ e. one _ (card_fine _))
+fine_excsqlset u c = cond_both (list_any (is_object_with point.sqlstt) c.objects) _ _ IsFineAnswer
+    (λ e. one _ (card_fine (after_sets u.typdef (data_with point.sqlstt c.objects) u.registers).outcome)) (λ e. one _ (card_fine outcome.NoStatement))
 
 fine_prpsqlstt : (u : UnitState) (c : Command) → IsFineAnswer (prpsqlstt_answered u c)
 unfolding prpsqlstt_answered
-fine_prpsqlstt u c = cond_both (is_select (first_statement u.typdef c)) _ _ IsFineAnswer (λ e. one _ (card_fine _)) (λ e. one _ (card_fine _))
+fine_prpsqlstt u c = cond_both (is_select (first_statement u.typdef c)) _ _ IsFineAnswer
+    (λ e. one _ (card_fine outcome.Success)) (λ e. one _ (card_fine outcome.NoStatement))
 
 fine_opens : (rows : Rows) (u : UnitState) (section : ℕ) (held : Option Bool) (cursor : Option CursorState) → IsFineAnswer (opens rows u section held cursor)
-fine_opens rows u section None cursor = one _ (card_fine _)
-fine_opens rows u section (Some held) (Some cursor) = one _ (card_fine _)
+fine_opens rows u section None cursor = one _ (card_fine outcome.NotPrepared)
+fine_opens rows u section (Some held) (Some cursor) = one _ (card_fine outcome.CursorOpen)
 fine_opens rows u section (Some held) None = two _ _ opnqryrm_fine qrydsc_fine
 
 fine_opnqry : (rows : Rows) (u : UnitState) (c : Command) → IsFineAnswer (opnqry_answered rows u c)
@@ -269,7 +271,7 @@ unfolding opnqry_answered
 fine_opnqry rows u c = fine_opens rows u (section_of c) (in_section (section_of c) u.prepared) (in_section (section_of c) u.cursors)
 
 fine_fetched : (u : UnitState) (section : ℕ) (held : Bool) (rows : List (ℕ × List ℕ)) → IsFineAnswer (fetched u section held rows)
-fine_fetched u section held [] = two _ _ endqryrm_fine (card_fine _)
+fine_fetched u section held [] = two _ _ endqryrm_fine (card_fine outcome.NotFound)
 fine_fetched u section held (row ∷ rows) = one _ (row_fine row)
 
 fine_fetches : (u : UnitState) (section : ℕ) (cursor : Option CursorState) → IsFineAnswer (fetches u section cursor)
@@ -282,7 +284,7 @@ fine_cntqry u c = fine_fetches u (section_of c) (in_section (section_of c) u.cur
 
 fine_closes : (u : UnitState) (section : ℕ) (cursor : Option CursorState) → IsFineAnswer (closes u section cursor)
 fine_closes u section None = one _ qrynoprm_fine
-fine_closes u section (Some cursor) = one _ (card_fine _)
+fine_closes u section (Some cursor) = one _ (card_fine outcome.Success)
 
 fine_clsqry : (u : UnitState) (c : Command) → IsFineAnswer (clsqry_answered u c)
 unfolding clsqry_answered

@@ -26,17 +26,17 @@ use Rattle.group_store.specs.Answered.{Answered, refuses}
 use Rattle.group_store.specs.UnitEnd.{asks_release, asks_sets, has_no_cursor, ended, rdbcmm_answered, rdbrllbck_answered}
 use Rattle.group_store.specs.Store.{StoreState, answered, commits_now, with_commit, data_after, unit_after, replies, base, store_meaning}
 use Rattle.group_store.specs.Values.{IsAccessed, Stands, StandsAt, IsUnit, store_values}
-use Rattle.group_store.proofs.GroupLaws.Replies.{IsFine, AreFine, all_fine, readable, end_fits}
-use Rattle.group_store.proofs.GroupLaws.Asking.{ends_code}
-use Rattle.group_store.proofs.GroupLaws.Ends.{ended_replies, it_releases, it_commits, it_rolls_back, it_says}
-use Rattle.group_store.proofs.GroupLaws.Units.{unit_stays}
-use Rattle.group_store.proofs.GroupLaws.Same.{made_same, data_by_code, does_the_same}
-use Rattle.group_store.proofs.GroupLaws.UnitEnds.{EndsUnit, commit_answered, roll_back_answered, not_now_answered, left, Both, both_of, asked_code, unasked_code}
-use Rattle.group_store.proofs.GroupLaws.UnitEnds.{asked_number, unasked_number, unasked_body}
-use Rattle.group_store.proofs.GroupLaws.Access.{greeted, led_back}
-use Rattle.group_store.proofs.GroupLaws.SetsAlone.{led_alike, answers_alike}
-use Rattle.group_store.proofs.GroupLaws.Standing.{at_unset, at_its_base, base_is_unit, stands_is_unit, stands_at, is_admitted, is_not_admitted, is_let_in}
-use Rattle.group_store.proofs.GroupLaws.Standing.{is_not_let_in, is_passed_on, it_has_ended, is_held, is_released}
+use Rattle.group_store.specs.GroupLaws.Replies.{IsFine, AreFine, all_fine, readable, end_fits}
+use Rattle.group_store.specs.GroupLaws.Asking.{ends_code}
+use Rattle.group_store.specs.GroupLaws.Ends.{ended_replies, it_releases, it_commits, it_rolls_back, it_says}
+use Rattle.group_store.specs.GroupLaws.Units.{unit_stays}
+use Rattle.group_store.specs.GroupLaws.Same.{made_same, data_by_code, does_the_same}
+use Rattle.group_store.specs.GroupLaws.UnitEnds.{EndsUnit, commit_answered, roll_back_answered, not_now_answered, left, Both, both_of, asked_code, unasked_code}
+use Rattle.group_store.specs.GroupLaws.UnitEnds.{asked_number, unasked_number, unasked_body}
+use Rattle.group_store.specs.GroupLaws.Access.{greeted, led_back}
+use Rattle.group_store.specs.GroupLaws.SetsAlone.{led_alike, answers_alike}
+use Rattle.group_store.specs.GroupLaws.Standing.{at_unset, at_its_base, base_is_unit, stands_is_unit, stands_at, is_admitted, is_not_admitted, is_let_in}
+use Rattle.group_store.specs.GroupLaws.Standing.{is_not_let_in, is_passed_on, it_has_ended, is_held, is_released}
 
 -- ---- replies
 

@@ -24,10 +24,10 @@ use Rattle.group_store.specs.Unit.{UnitState, Cursors, nothing_at, after_commit,
 use Rattle.group_store.specs.Answered.{Answered, refuses}
 use Rattle.group_store.specs.UnitEnd.{asks_release, asks_sets, has_no_cursor, ends_with, ended, rdbcmm_answered, rdbrllbck_answered}
 use Rattle.group_store.specs.Store.{StoreState, is_known, done, answered, unit_after, replies}
-use Rattle.group_store.proofs.GroupLaws.Cases.{IsNow}
-use Rattle.group_store.proofs.GroupLaws.Same.{made_code, made_number}
-use Rattle.group_store.proofs.GroupLaws.Asking.{IsEnd, is_end, ends_code, asked_release, asked_sets, unasked_release, unasked_sets}
-use Rattle.group_store.proofs.GroupLaws.Ends.{ended_replies}
+use Rattle.group_store.specs.GroupLaws.Cases.{IsNow}
+use Rattle.group_store.specs.GroupLaws.Same.{made_code, made_number}
+use Rattle.group_store.specs.GroupLaws.Asking.{IsEnd, is_end, ends_code, asked_release, asked_sets, unasked_release, unasked_sets}
+use Rattle.group_store.specs.GroupLaws.Ends.{ended_replies}
 
 -- ---- one of the two commands
 
@@ -132,7 +132,7 @@ pub record Both (s : StoreState) (u : UnitState) (c : Command) : Type 0 where
   pub unasked_replies : replies s u (unasked c) ≡ ended_replies c.corr disposition outcome (left u cursors) false false
   pub unasked_unit : unit_after s u (unasked c) ≡ left u cursors
 
-abbrev unasked_body : List ℕ → List ℕ
+abbrev pub unasked_body : List ℕ → List ℕ
 unasked_body body = canonical_object (code_of body) (kept_members is_asking (data_of body))
 
 pub asked_code : (c : Command) → (asked c).code ≡ c.code

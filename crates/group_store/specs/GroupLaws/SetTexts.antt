@@ -26,7 +26,7 @@ use Rattle.member_statements.proofs.Spelled.{spelled_is_read}
 use Rattle.group_store.specs.Unit.{register_rank}
 use Rattle.group_store.specs.Statement.{text_of, statement_in}
 use Rattle.group_store.specs.Values.{IsSet, set_data}
-use Rattle.group_store.proofs.GroupLaws.Registers.{Entry, rank, same_register}
+use Rattle.group_store.specs.GroupLaws.Registers.{Entry, rank, same_register}
 
 -- ---- characters there and back
 
@@ -80,12 +80,11 @@ front register = codes "SET " ++ register_name register ++ 0x20 ∷ []
 abbrev behind : List ℕ → List ℕ
 behind value = 0x20 ∷ 0x27 ∷ value ++ codes "'"
 
-regroup : (set name value end : List ℕ) → set ++ name ++ (0x20 ∷ 0x3D ∷ 0x20 ∷ 0x27 ∷ []) ++ value ++ end
-    ≡ (set ++ name ++ 0x20 ∷ []) ++ (0x3D ∷ 0x20 ∷ 0x27 ∷ []) ++ value ++ end
-regroup set name value end = simp append_assoc refl
+regroup : (name value : List ℕ) → codes "SET " ++ name ++ codes " = '" ++ value ++ codes "'" ≡ (codes "SET " ++ name ++ 0x20 ∷ []) ++ 0x3D ∷ behind value
+regroup name value = simp append_assoc refl
 
 set_parts : (register : Register) (value : List ℕ) → set_text register value ≡ front register ++ 0x3D ∷ behind value
-set_parts register value = regroup (codes "SET ") (register_name register) value (codes "'")
+set_parts register value = regroup (register_name register) value
 
 -- a character that isn't the equals sign, in this type definition
 abbrev is_plain : TypDef → ℕ → Bool

@@ -25,8 +25,8 @@ use Rattle.member_replies.specs.Reply.{Said, message, reply_data, dss_of, dsss_o
 use Rattle.group_store.specs.Unit.{Registers, UnitState}
 use Rattle.group_store.specs.Values.{IsSet, set_data}
 use Rattle.group_store.specs.UnitEnd.{ends_with}
-use Rattle.group_store.proofs.GroupLaws.Registers.{Entry}
-use Rattle.group_store.proofs.GroupLaws.SetTexts.{data_short}
+use Rattle.group_store.specs.GroupLaws.Registers.{Entry}
+use Rattle.group_store.specs.GroupLaws.SetTexts.{data_short}
 
 -- ---- one reply
 

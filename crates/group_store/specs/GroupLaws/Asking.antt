@@ -25,7 +25,7 @@ use Rattle.unit_segments.specs.Accepts.{is_data}
 use Rattle.plain_model.specs.UnitEnd.{unasked}
 use Rattle.plain_model.specs.Group.{IsCommand}
 use Rattle.group_store.specs.UnitEnd.{asks_release, asks_sets}
-use Rattle.group_store.proofs.GroupLaws.Members.{Reads, reads_none, reads_first, Kept, kept_reads, parameter_read, first_behind}
+use Rattle.group_store.specs.GroupLaws.Members.{Reads, reads_none, reads_first, Kept, kept_reads, parameter_read, first_behind}
 
 -- ---- the two commands that end a unit
 
