@@ -7,7 +7,6 @@ ghost use Rattle.member_replies.specs.Reply.{dsss_of};
 ghost use Rattle.group_store.specs.Access.{with_levels, are_read, excsat_answered, accsec_answered, user_in, asks_password, name_in};
 ghost use Rattle.group_store.specs.Access.{accrdb_answered, typdef_in};
 
-use member_replies::{accrdbrm, message, reply_data, valnsprm};
 use crate::unit::StoreUnit;
 use access_handshake::{
     AccsecAnswer, ExcsatAnswer, Stage, answer_accsec, answer_excsat, answer_is_short,
@@ -23,6 +22,7 @@ use ddm_codepoints::{TypDef, trimmed, typdef_of};
 use ddm_objects::{Builder, find};
 use dss_frame::DssList;
 use link_ends::{NoMemory, Octets};
+use member_replies::{accrdbrm, message, reply_data, valnsprm};
 use reply_texts::{cmdnsp, decode};
 use std::alloc::Global;
 use unit_segments::{Command, data_of};

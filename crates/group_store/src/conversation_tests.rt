@@ -102,12 +102,24 @@ fn commits_end_units(rt: HostRuntime) -> Result<(), Fail> {
             b"INSERT INTO T VALUES (7, 'B')",
         )?;
     }
-    state(&mut second, &mut group, alloc, &PREPARE, b"SELECT K, V FROM T")?;
+    state(
+        &mut second,
+        &mut group,
+        alloc,
+        &PREPARE,
+        b"SELECT K, V FROM T",
+    )?;
     ask(&mut second, &mut group, alloc, &OPEN)?;
     ask(&mut first, &mut group, alloc, &COMMIT)?;
     ask(&mut second, &mut group, alloc, &COMMIT)?;
-    assert!(rt; first.out().strip_suffix(GRANTED.as_slice()).is_some(), "granted");
-    assert!(rt; second.out().strip_suffix(CONFLICT.as_slice()).is_some(), "a conflict");
+    assert!(rt;
+        first.out().strip_suffix(GRANTED.as_slice()).is_some(),
+        "granted"
+    );
+    assert!(rt;
+        second.out().strip_suffix(CONFLICT.as_slice()).is_some(),
+        "a conflict"
+    );
     assert_eq!(rt; group.commits(), 1);
     Ok(())
 }
@@ -120,8 +132,20 @@ fn registers_are_set_again(rt: HostRuntime) -> Result<(), Fail> {
     let mut first = accessed(&mut group, alloc)?;
     let mut second = accessed(&mut group, alloc)?;
     state(&mut first, &mut group, alloc, &SET, b"SET R10 = 'a'")?;
-    state(&mut first, &mut group, alloc, &SET, b"SET CURRENT PATH = 'P'")?;
-    state(&mut second, &mut group, alloc, &SET, b"SET CURRENT PATH = 'P'")?;
+    state(
+        &mut first,
+        &mut group,
+        alloc,
+        &SET,
+        b"SET CURRENT PATH = 'P'",
+    )?;
+    state(
+        &mut second,
+        &mut group,
+        alloc,
+        &SET,
+        b"SET CURRENT PATH = 'P'",
+    )?;
     state(&mut second, &mut group, alloc, &SET, b"SET R10 = 'a'")?;
     ask(&mut first, &mut group, alloc, &COMMIT)?;
     ask(&mut second, &mut group, alloc, &COMMIT)?;

@@ -9,7 +9,6 @@ ghost use Rattle.ddm_codepoints.specs.CodePoint.{sqlstt};
 ghost use Rattle.unit_segments.specs.declared.command.Command.{Command};
 
 use crate::rows::Place;
-use member_replies::{SqlOutcome, card};
 use crate::statement::{first_statement, is_object_with, statement_in};
 use crate::store::Store;
 use crate::text::Text;
@@ -17,6 +16,7 @@ use crate::unit::StoreUnit;
 use ddm_codepoints::code_point::SQLSTT;
 use dss_frame::DssList;
 use link_ends::{NoMemory, Octets};
+use member_replies::{SqlOutcome, card};
 use member_statements::Statement;
 use unit_segments::{Command, data_of};
 

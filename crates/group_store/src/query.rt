@@ -2,15 +2,15 @@ ghost use Rattle.std.specs.Prelude.{◌≡◌, [], ◌∷◌, IfOk, OnOk};
 ghost use Rattle.member_replies.specs.Reply.{dsss_of, message, reply_data};
 ghost use Rattle.group_store.specs.Query.{is_select, prpsqlstt_answered, opnqry_answered, cntqry_answered, clsqry_answered};
 
-use member_replies::{
-    SqlOutcome, card, endqryrm, message, opnqryrm, put_data, put_message, qrydsc, qrydta, qrynoprm,
-    reply_data, sqlcard,
-};
 use crate::statement::{first_statement, is_held, section_of};
 use crate::store::Store;
 use crate::unit::{Cursor, StoreUnit};
 use dss_frame::DssList;
 use link_ends::{NoMemory, Octets, Sequence};
+use member_replies::{
+    SqlOutcome, card, endqryrm, message, opnqryrm, put_data, put_message, qrydsc, qrydta, qrynoprm,
+    reply_data, sqlcard,
+};
 use member_statements::Statement;
 use std::alloc::Global;
 use unit_segments::Command;

@@ -10,7 +10,6 @@ ghost use Rattle.group_store.specs.GroupLaws.All.{store_laws};
 use crate::access::{accrdb, accsec, asks_password, excsat, has_password, name_in, user_in};
 use crate::execute::excsqlset;
 use crate::query::{clsqry, cntqry, prpsqlstt};
-use member_replies::{message, secchkrm};
 use crate::rows::{Place, Version};
 use crate::unit::StoreUnit;
 use crate::unit_end::rdbrllbck;
@@ -23,6 +22,7 @@ use ddm_codepoints::code_point::{
 use ddm_codepoints::value::{ADMITTED, ERROR, INFO};
 use dss_frame::DssList;
 use link_ends::NoMemory;
+use member_replies::{message, secchkrm};
 use plain_model::Group;
 use reply_texts::{cmdnsp, prccnv};
 use std::alloc::Global;

@@ -4,7 +4,6 @@ ghost use Rattle.group_store.specs.Store.{with_commit};
 ghost use Rattle.group_store.specs.Rows.{conflicts};
 ghost use Rattle.group_store.specs.UnitEnd.{asks_release, asks_sets, has_no_cursor, ended, rdbcmm_answered, rdbrllbck_answered};
 
-use member_replies::{SqlOutcome, enduowrm, put_data, put_message, sqlcard, sqlstt};
 use crate::store::Store;
 use crate::unit::StoreUnit;
 use access_handshake::{Stage, find_parameter};
@@ -12,6 +11,7 @@ use ddm_codepoints::code_point::{RLSCONV, RTNSETSTT};
 use ddm_codepoints::value::{COMMITTED, RELEASE, RETURN_SETS, ROLLED_BACK};
 use dss_frame::DssList;
 use link_ends::{NoMemory, Sequence};
+use member_replies::{SqlOutcome, enduowrm, put_data, put_message, sqlcard, sqlstt};
 use unit_segments::{Command, data_of};
 
 impl Store {

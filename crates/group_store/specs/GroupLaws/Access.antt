@@ -1,5 +1,6 @@
 -- Access leads the units of the small group where a session's commands lead the session.
-use Rattle.std.proofs.Common.{◌≡◌, ◌⊎◌, inl, inr, ℕ, ◌==◌, ◌&&◌, Bool, true, false, not, if◌then◌else◌, cond, List, [], ◌∷◌, length, refl, sym, ap, ◌∙◌, subst, arith, true≢false}
+use Rattle.std.proofs.Common.{◌≡◌, ◌⊎◌, inl, inr, ℕ, ◌==◌, ◌&&◌, Bool, true, false, not, if◌then◌else◌, cond, List, [], ◌∷◌, length, refl, sym, ap}
+use Rattle.std.proofs.Common.{◌∙◌, subst, arith, true≢false}
 use Rattle.std.proofs.Common.{Option, Some, None, is_some, is_none}
 use Rattle.std.specs.Prelude.{bytes_eq, unwrap_or, option_and_then}
 use Rattle.std.specs.List.{AllByRecursion}
@@ -187,7 +188,7 @@ leads_on : (typ : TypDef) (mechanism : ℕ) (u to : UnitState) (c : Command) (cs
 leads_on typ mechanism u to c cs next no_commit one others = λ s is. (
   data_same s u c no_commit,
   λ accepted. subst (λ (v : UnitState). Leads_to (told_typdef typ (replies s u c)) mechanism v cs to) (sym (one s accepted))
-  (others (told_typdef typ (replies s u c))),
+      (others (told_typdef typ (replies s u c))),
 )
 
 pub greeted : (typ : TypDef) (mechanism : ℕ) → Leads_to typ mechanism fresh (own_command point.excsat hello_object ∷ []) (base attached)
@@ -197,7 +198,8 @@ greeted typ mechanism =
     (λ s accepted. own_excsat s typ mechanism) (λ told. refl)
 
 leads_accsec : (typ : TypDef) (mechanism : ℕ) (body : List ℕ) (cs : List Command) (to : UnitState)
-    → ((told : TypDef) → Leads_to told mechanism (nothing_at Chosen) cs to) → Leads_to typ mechanism (nothing_at Attached) (own_command point.accsec body ∷ cs) to
+    → ((told : TypDef) → Leads_to told mechanism (nothing_at Chosen) cs to)
+    → Leads_to typ mechanism (nothing_at Attached) (own_command point.accsec body ∷ cs) to
 leads_accsec typ mechanism body cs to others =
     leads_on typ mechanism (nothing_at Attached) to (own_command point.accsec body) cs (nothing_at Chosen) refl
     (λ s accepted. own_accsec s typ mechanism body accepted) others

@@ -1,5 +1,6 @@
 -- A command that ends a unit of work asks for release and for SET statements exactly where it is made to.
-use Rattle.std.proofs.Common.{◌≡◌, ◌⊎◌, inl, inr, ℕ, ◌+◌, ◌-◌, ◌<◌, ◌≤◌, ◌==◌, ◌&&◌, ◌||◌, Bool, true, false, not, if◌then◌else◌, cond, List, [], ◌∷◌, ◌++◌, length, take}
+use Rattle.std.proofs.Common.{◌≡◌, ◌⊎◌, inl, inr, ℕ, ◌+◌, ◌-◌, ◌<◌, ◌≤◌, ◌==◌, ◌&&◌, ◌||◌, Bool, true, false, not, if◌then◌else◌, cond, List, [], ◌∷◌}
+use Rattle.std.proofs.Common.{◌++◌, length, take}
 use Rattle.std.proofs.Common.{Option, Some, None, Result, Ok, Err, refl, sym, ap, ◌∙◌, subst, arith, true≢false, eqb-true, find}
 use Rattle.std.specs.List.{list_all}
 use Rattle.std.proofs.lemmas.Bool.{cond_both, cond-true, cond-false, or_parts}
@@ -170,7 +171,8 @@ unasked_data c is =
     (cond-true (ends_unit (class_of c.code)) (record c { body = canonical_object (code_of c.body) (kept_of c) }) c is.ends)
     ∙ written_data (code_of c.body) (kept_of c) is.code (omega (arith, is.kept.short, data_short c.body, is.size))
 
-asked_parameter : (c : Command) (code : ℕ) → IsEnd c → is_asking code ≡ true → parameter (data_of (asked c).body) code ≡ found_data (Ok (first_with code both_asked))
+asked_parameter : (c : Command) (code : ℕ) → IsEnd c → is_asking code ≡ true
+    → parameter (data_of (asked c).body) code ≡ found_data (Ok (first_with code both_asked))
 asked_parameter c code is dropped =
     ap (λ bytes. parameter bytes code) (asked_data c is)
     ∙ parameter_read (kept_of c ++ asking) (is.kept.objects ++ both_asked) code (is.kept.reads asking both_asked asking_reads)

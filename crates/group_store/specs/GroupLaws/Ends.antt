@@ -1,5 +1,6 @@
 -- What the replies to a command that ends a unit of work say.
-use Rattle.std.proofs.Common.{◌≡◌, ◌⊎◌, inl, inr, ℕ, ◌≤◌, ◌==◌, ◌&&◌, ◌||◌, Bool, true, false, not, if◌then◌else◌, cond, List, [], ◌∷◌, ◌++◌, length, map, filter, find}
+use Rattle.std.proofs.Common.{◌≡◌, ◌⊎◌, inl, inr, ℕ, ◌≤◌, ◌==◌, ◌&&◌, ◌||◌, Bool, true, false, not, if◌then◌else◌, cond, List, [], ◌∷◌, ◌++◌, length}
+use Rattle.std.proofs.Common.{map, filter, find}
 use Rattle.std.proofs.Common.{Option, Some, None, is_some, refl, sym, ap, ◌∙◌, subst, arith, true≢false, eqb-true}
 use Rattle.std.specs.List.{AllByRecursion}
 use Rattle.std.proofs.lemmas.Bool.{cond_both, cond-true, cond-false, eq-eqb}
@@ -118,7 +119,8 @@ behind_end number outcome u sets = dsss_of number (card_said outcome ∷ (if set
 abbrev pub ended_replies : ℕ → ℕ → SqlOutcome → UnitState → Bool → Bool → List Dss
 ended_replies number disposition outcome u granted sets = dsss_of number (ends_with disposition outcome u granted sets).said
 
-same_end : (number disposition : ℕ) (granted : Bool) → without_lists (ended_reply number disposition granted) ≡ without_lists (ended_reply number disposition false)
+same_end : (number disposition : ℕ) (granted : Bool)
+    → without_lists (ended_reply number disposition granted) ≡ without_lists (ended_reply number disposition false)
 unfolding enduow_object extent_at object_at first_object members_within kept_within
 same_end number disposition true = refl
 same_end number disposition false = refl
@@ -184,7 +186,8 @@ rest_of ms = map (λ (m : Marked). without_lists m.reply) (filter (λ (m : Marke
 abbrev other_replies : ℕ → UnitState → Bool → List Dss
 other_replies number u sets = dsss_of number (if sets then sets_said u.typdef u.registers else [])
 
-others_dropped : (number : ℕ) (u : UnitState) (sets : Bool) → AllByRecursion IsSet u.registers → rest_of (marked_from number true (other_replies number u sets)) ≡ []
+others_dropped : (number : ℕ) (u : UnitState) (sets : Bool) → AllByRecursion IsSet u.registers
+    → rest_of (marked_from number true (other_replies number u sets)) ≡ []
 others_dropped number u true each =
     ap rest_of (sets_marked number u.typdef u.registers each) ∙ ap (map (λ (m : Marked). without_lists m.reply)) (none_left number u.typdef u.registers)
 others_dropped number u false each = refl

@@ -1,5 +1,6 @@
 -- The log of a session: what it keeps of the registers that it was told, and which registers it sets again.
-use Rattle.std.proofs.Common.{◌≡◌, ◌⊎◌, inl, inr, ℕ, ◌≤◌, ◌==◌, ◌&&◌, ◌||◌, Bool, true, false, not, if◌then◌else◌, cond, List, [], ◌∷◌, ◌++◌, length, map, filter}
+use Rattle.std.proofs.Common.{◌≡◌, ◌⊎◌, inl, inr, ℕ, ◌≤◌, ◌==◌, ◌&&◌, ◌||◌, Bool, true, false, not, if◌then◌else◌, cond, List, [], ◌∷◌, ◌++◌, length}
+use Rattle.std.proofs.Common.{map, filter}
 use Rattle.std.proofs.Common.{Option, Some, None, Result, Ok, Err, refl, sym, ap, ◌∙◌, subst, arith, true≢false, nat_le, nat_lt}
 use Rattle.std.specs.Prelude.{bytes_eq}
 use Rattle.std.specs.List.{AllByRecursion, list_any}
@@ -72,7 +73,8 @@ told_same typ entry told is each =
 
 -- a statement that the log takes
 taken : (typ : TypDef) (log : List Logged) (bytes : List ℕ)
-    → (with_set typ log bytes ≡ Ok (with_register (record { key = key_of typ bytes; statement = bytes }) log)) ⊎ ((fault : RegisterFault) × (with_set typ log bytes ≡ Err fault))
+    → (with_set typ log bytes ≡ Ok (with_register (record { key = key_of typ bytes; statement = bytes }) log)) ⊎ ((fault : RegisterFault) ×
+    (with_set typ log bytes ≡ Err fault))
 unfolding with_set
 taken typ log bytes = cond_both (nat_lt most_text (set_of bytes).size) (Err TooLong) others
     (λ (r : Result (List Logged) RegisterFault). (r ≡ Ok added) ⊎ ((fault : RegisterFault) × (r ≡ Err fault)))
@@ -125,14 +127,16 @@ log_after typ (entry ∷ entries) told each also none =
     now = with_set typ (log_of typ told) (set_data typ entry)
 
     go : (now ≡ Ok (with_register (logged typ entry) (log_of typ told))) ⊎ ((fault : RegisterFault) × (now ≡ Err fault))
-        → ((rest (log_of typ (told_one entry told))).fault ≡ None → (rest (log_of typ (told_one entry told))).log ≡ log_of typ (told_all (entry ∷ entries) told))
+        → ((rest (log_of typ (told_one entry told))).fault ≡ None
+        → (rest (log_of typ (told_one entry told))).log ≡ log_of typ (told_all (entry ∷ entries) told))
         → (after_set (log_of typ told) now rest).log ≡ log_of typ (told_all (entry ∷ entries) told)
     go (inl e) others =
         let is : after_set (log_of typ told) now rest ≡ rest (log_of typ (told_one entry told)) =
         ap (λ (r : Result (List Logged) RegisterFault). after_set (log_of typ told) r rest) e ∙ ap rest (told_same typ entry told each.0 also) in
         ap (λ (a : AfterSets). a.log) is ∙ others (sym (ap (λ (a : AfterSets). a.fault) is) ∙ none)
     go (inr p) others =
-        absurd (true≢false (sym (ap is_faultless (sym (ap (λ (r : Result (List Logged) RegisterFault). (after_set (log_of typ told) r rest).fault) p.1) ∙ none))))
+        absurd (true≢false (sym (ap is_faultless (sym (ap (λ (r : Result (List Logged) RegisterFault). (after_set
+        (log_of typ told) r rest).fault) p.1) ∙ none))))
 
 -- ---- what is set again
 

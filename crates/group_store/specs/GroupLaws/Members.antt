@@ -142,7 +142,8 @@ first_reads place (byte ∷ bytes) more object objects e reads (suc count) small
 pub reads_first : (bytes more : List ℕ) (found : Found) (objects : List Member) → object_at 0 bytes ≡ Ok found → Reads more objects
     → Reads (take (length bytes - length found.rest) bytes ++ more) (found.object ∷ objects)
 reads_first bytes more found objects e reads count place small =
-    first_reads place (take (length bytes - length found.rest) bytes ++ more) more found.object objects (object_moved place bytes more found e) reads count small
+    first_reads place (take (length bytes - length found.rest) bytes ++ more) more found.object objects
+    (object_moved place bytes more found e) reads count small
 
 -- ---- those that are kept
 
@@ -210,13 +211,15 @@ kept_reads (suc count) place drops (byte ∷ bytes) small none = go (object_at p
 
 -- ---- finding one
 
-pub parameter_read : (bytes : List ℕ) (objects : List Member) (code : ℕ) → Reads bytes objects → parameter bytes code ≡ found_data (Ok (first_with code objects))
+pub parameter_read : (bytes : List ℕ) (objects : List Member) (code : ℕ) → Reads bytes objects
+    → parameter bytes code ≡ found_data (Ok (first_with code objects))
 unfolding parameter
 parameter_read bytes objects code reads =
     ap (λ (m : Members). found_data (found_or_fault m.fault (first_with code m.objects))) (reads (length bytes) 0 (omega arith))
 
 -- one that is dropped isn't among those that are kept
-pub first_behind : (drops : ℕ → Bool) (code : ℕ) (objects others : List Member) → drops code ≡ true → AllByRecursion (λ (o : Member). drops o.code ≡ false) objects
+pub first_behind : (drops : ℕ → Bool) (code : ℕ) (objects others : List Member) → drops code ≡ true
+    → AllByRecursion (λ (o : Member). drops o.code ≡ false) objects
     → first_with code (objects ++ others) ≡ first_with code others
 first_behind drops code [] others dropped none = refl
 first_behind drops code (object ∷ objects) others dropped none =

@@ -1,5 +1,6 @@
 -- Lists of registers: in order, set again, and told.
-use Rattle.std.proofs.Common.{◌≡◌, ◌≢◌, ◌⊎◌, inl, inr, ℕ, suc, ◌+◌, ◌<◌, ◌≤◌, ◌==◌, Bool, true, false, if◌then◌else◌, cond, List, [], ◌∷◌, ◌++◌, refl, sym, ap, ◌∙◌, subst, arith, true≢false, eqb-true}
+use Rattle.std.proofs.Common.{◌≡◌, ◌≢◌, ◌⊎◌, inl, inr, ℕ, suc, ◌+◌, ◌<◌, ◌≤◌, ◌==◌, Bool, true, false, if◌then◌else◌, cond, List, [], ◌∷◌, ◌++◌, refl}
+use Rattle.std.proofs.Common.{sym, ap, ◌∙◌, subst, arith, true≢false, eqb-true}
 use Rattle.std.proofs.Common.{map, ◌||◌}
 use Rattle.std.proofs.lemmas.Bool.{eq-eqb}
 use Rattle.std.specs.List.{AllByRecursion, list_any}
@@ -57,7 +58,8 @@ least_rank least (entry ∷ registers) order x (inl e) = subst (λ (y : Entry). 
 least_rank least (entry ∷ registers) order x (inr is) = omega (arith, order.0, least_rank (suc (rank entry)) registers order.1 x is)
 
 -- each stands there once
-pub one_alone : (least : ℕ) (registers : Registers) → AreOrdered least registers → (x y : Entry) → IsAmong x registers → IsAmong y registers → rank x ≡ rank y → x ≡ y
+pub one_alone : (least : ℕ) (registers : Registers) → AreOrdered least registers → (x y : Entry) → IsAmong x registers → IsAmong y registers
+    → rank x ≡ rank y → x ≡ y
 one_alone least [] order x y is also e = absurd is
 one_alone least (entry ∷ registers) order x y (inl f) (inl g) e = f ∙ sym g
 one_alone least (entry ∷ registers) order x y (inl f) (inr also) e =
@@ -162,8 +164,11 @@ pub keeps_register : (r : Register) (v : List ℕ) (registers : Registers) (k : 
 keeps_register r v registers k has = go (register_rank k == register_rank r) refl
   where
     go : (b : Bool) → (register_rank k == register_rank r) ≡ b → HasRegister k (with_value r v registers)
-    go true e = (v, subst (λ q. IsAmong (q, v) (with_value r v registers)) (sym (same_register k r (eqb-true (register_rank k) (register_rank r) e)))
-        (new_among r v registers))
+    go true e = (
+      v,
+      subst (λ q. IsAmong (q, v) (with_value r v registers)) (sym (same_register k r (eqb-true (register_rank k) (register_rank r) e)))
+          (new_among r v registers),
+    )
     go false e = (has.0, stays_among r v registers (k, has.0) has.1 (λ f. absurd (true≢false (sym (eq-eqb (register_rank k) (register_rank r) f) ∙ e))))
 
 -- ---- all of a list, one after another

@@ -1,5 +1,6 @@
 -- Each reply of the small group is one to its command.
-use Rattle.std.proofs.Common.{◌≡◌, ◌≢◌, ℕ, ◌≤◌, ◌==◌, ◌&&◌, Bool, true, false, not, if◌then◌else◌, List, [], ◌∷◌, ◌++◌, length, map, ap, sym, refl, subst, ◌∙◌, arith}
+use Rattle.std.proofs.Common.{◌≡◌, ◌≢◌, ℕ, ◌≤◌, ◌==◌, ◌&&◌, Bool, true, false, not, if◌then◌else◌, List, [], ◌∷◌, ◌++◌, length, map, ap, sym, refl}
+use Rattle.std.proofs.Common.{subst, ◌∙◌, arith}
 use Rattle.std.proofs.Common.{Option, Some, None, is_some, is_none, Result, Ok, Err, true≢false}
 use Rattle.std.proofs.lemmas.Bool.{cond_both, leb-true}
 use Rattle.std.specs.Prelude.{codes}
@@ -47,11 +48,13 @@ use Rattle.member_replies.specs.Reply.{opnqryrm_object, qrydsc_object, qrydta_ob
 use Rattle.group_store.specs.Rows.{Rows, Writes, conflicts}
 use Rattle.group_store.specs.Unit.{UnitState, Registers, CursorState, nothing_at, checked_as, accessed_as, after_commit, after_roll_back}
 use Rattle.group_store.specs.Answered.{Answered, says, refuses}
-use Rattle.group_store.specs.Access.{Users, with_levels, to_excsat, are_read, excsat_answered, to_accsec, accsec_answered, secchkcd_of, secchk_answered, typdef_in, by_typdef}
+use Rattle.group_store.specs.Access.{Users, with_levels, to_excsat, are_read, excsat_answered, to_accsec, accsec_answered, secchkcd_of}
+use Rattle.group_store.specs.Access.{secchk_answered, typdef_in, by_typdef}
 use Rattle.group_store.specs.Access.{accrdb_answered}
 use Rattle.group_store.specs.Statement.{is_object_with, data_with, first_statement, section_of}
 use Rattle.group_store.specs.Execute.{sees, inserted, replaced, statement_done, excsqlimm_answered, excsqlset_answered, with_sets, after_sets, writes}
-use Rattle.group_store.specs.Query.{in_section, is_select, prepared, prpsqlstt_answered, opens, opnqry_answered, fetched, fetches, cntqry_answered, closes, clsqry_answered}
+use Rattle.group_store.specs.Query.{in_section, is_select, prepared, prpsqlstt_answered, opens, opnqry_answered, fetched, fetches, cntqry_answered}
+use Rattle.group_store.specs.Query.{closes, clsqry_answered}
 use Rattle.group_store.specs.UnitEnd.{asks_release, asks_sets, has_no_cursor, ends_with, ended, rdbcmm_answered, rdbrllbck_answered}
 use Rattle.group_store.specs.Store.{StoreState, answered}
 use Rattle.group_store.specs.GroupLaws.WrittenCodes.{is_no_other}
@@ -162,8 +165,11 @@ ended_fine disposition false = record {
 
 sets_fine : (typdef : TypDef) (registers : Registers) → AllByRecursion IsFine (sets_said typdef registers)
 sets_fine typdef [] = tt
-sets_fine typdef (register ∷ registers) = (other_fine kind.Object point.sqlstt (0 ∷ big_bytes 4 (length (set_text register.0 register.1))
-    ++ codes_in typdef (set_text register.0 register.1) ++ 0xFF ∷ []) refl refl refl refl, sets_fine typdef registers)
+sets_fine typdef (register ∷ registers) = (
+  other_fine kind.Object point.sqlstt (0 ∷ big_bytes 4 (length (set_text register.0 register.1))
+      ++ codes_in typdef (set_text register.0 register.1) ++ 0xFF ∷ []) refl refl refl refl,
+  sets_fine typdef registers,
+)
 
 one : (said : Said) → IsFine said → AreFine (said ∷ [])
 one said is = record { some = refl; each = (is, tt) }
@@ -228,7 +234,7 @@ fine_end disposition outcome u granted false = record { some = refl; each = (end
 fine_rdbcmm : (rows : Rows) (u : UnitState) (c : Command) → IsFineAnswer (rdbcmm_answered rows u c)
 unfolding rdbcmm_answered
 fine_rdbcmm rows u c = cond_both (conflicts rows u.writes) (ended rolled_back outcome.Conflict (after_roll_back u) c)
-    (ended committed outcome.Success (after_commit u) c) IsFineAnswer 
+    (ended committed outcome.Success (after_commit u) c) IsFineAnswer
     (λ e. fine_end rolled_back outcome.Conflict (after_roll_back u) (asks_release c && has_no_cursor (after_roll_back u)) (asks_sets c))
     (λ e. fine_end committed outcome.Success (after_commit u) (asks_release c && has_no_cursor (after_commit u)) (asks_sets c))
 

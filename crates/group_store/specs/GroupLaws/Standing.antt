@@ -1,5 +1,6 @@
 -- Where the units of the small group stand for a session.
-use Rattle.std.proofs.Common.{◌≡◌, ◌⊎◌, inl, inr, ℕ, ◌==◌, Bool, true, false, not, if◌then◌else◌, cond, List, [], ◌∷◌, map, length, refl, sym, ap, ◌∙◌, subst, arith, true≢false, eqb-true}
+use Rattle.std.proofs.Common.{◌≡◌, ◌⊎◌, inl, inr, ℕ, ◌==◌, Bool, true, false, not, if◌then◌else◌, cond, List, [], ◌∷◌, map, length, refl, sym, ap}
+use Rattle.std.proofs.Common.{◌∙◌, subst, arith, true≢false, eqb-true}
 use Rattle.std.proofs.Common.{Option, Some, None, is_none}
 use Rattle.std.specs.Prelude.{unwrap_or}
 use Rattle.std.specs.List.{AllByRecursion}
@@ -127,8 +128,7 @@ secchk_unit : (s : StoreState) (u : UnitState) (c : Command) → u ≡ nothing_a
 unfolding replies unit_after
 secchk_unit s u c is e =
     let answer = secchk_is s u c e (chosen_now u c is e) in
-    let leads = secchk_leads s.users u (data_of c.body) c.corr in
-    (
+    let leads = secchk_leads s.users u (data_of c.body) c.corr in (
       λ f. ap (λ (a : Answered). a.unit) answer ∙ leads.given (ap (λ (a : Answered). gives_admission (dsss_of c.corr a.said)) (sym answer) ∙ f),
       λ f. ap (λ (a : Answered). a.unit) answer ∙ leads.refused (ap (λ (a : Answered). gives_admission (dsss_of c.corr a.said)) (sym answer) ∙ f),
     )
@@ -153,8 +153,7 @@ accrdb_unit : (s : StoreState) (u : UnitState) (c : Command) (user : List ℕ) �
 unfolding replies unit_after
 accrdb_unit s u c user is e =
     let answer = accrdb_is s u c e (checked_now u c user is e) in
-    let leads = accrdb_leads u (data_of c.body) c.corr in
-    (
+    let leads = accrdb_leads u (data_of c.body) c.corr in (
       λ f. ap (λ (a : Answered). a.unit) answer ∙ leads.given (ap (λ (a : Answered). has_accrdbrm (dsss_of c.corr a.said)) (sym answer) ∙ f),
       λ f. ap (λ (a : Answered). a.unit) answer ∙ leads.refused (ap (λ (a : Answered). has_accrdbrm (dsss_of c.corr a.said)) (sym answer) ∙ f),
     )
@@ -280,10 +279,9 @@ is_released st s u c is command at ends released none =
     let told : Registers = told_all u.registers is.told in
     let again : with_values told [] ≡ u.registers =
     set_again told u.registers is.registers (all_told st u is) (λ x among. told_among 0 u.registers is.told is.registers.order x among) in
-    let next : Standing = after_end st (sets_in c (replies s u (asked c))) in
-    (
+    let next : Standing = after_end st (sets_in c (replies s u (asked c))) in (
       both.asked_unit ∙ cond-true (has_no_cursor kept) (nothing_at Attached) kept free ∙ sym attached_base,
       both.unasked_unit ∙ left_is st u both.cursors is (no_cursors both.cursors free)
-      ∙ ap (λ (registers : Registers). accessed_with st.access registers) (sym again)
-      ∙ sym (base_told next told at (log_then st s u c is both none) (each_told st u is)),
+          ∙ ap (λ (registers : Registers). accessed_with st.access registers) (sym again)
+          ∙ sym (base_told next told at (log_then st s u c is both none) (each_told st u is)),
     )

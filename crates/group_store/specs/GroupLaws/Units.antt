@@ -1,5 +1,6 @@
 -- What commands leave of a unit: its registers, and where its session stands.
-use Rattle.std.proofs.Common.{◌≡◌, ◌⊎◌, inl, inr, ℕ, ◌==◌, ◌&&◌, Bool, true, false, if◌then◌else◌, cond, List, [], ◌∷◌, length, filter, refl, sym, ap, ◌∙◌, subst, arith, true≢false}
+use Rattle.std.proofs.Common.{◌≡◌, ◌⊎◌, inl, inr, ℕ, ◌==◌, ◌&&◌, Bool, true, false, if◌then◌else◌, cond, List, [], ◌∷◌, length, filter, refl, sym, ap}
+use Rattle.std.proofs.Common.{◌∙◌, subst, arith, true≢false}
 use Rattle.std.proofs.Common.{Option, Some, None, is_some, is_none}
 use Rattle.std.specs.Prelude.{option_and_then}
 use Rattle.std.proofs.lemmas.Bool.{cond_both}
@@ -29,7 +30,8 @@ use Rattle.plain_model.specs.Standing.{Standing, register_typdef}
 use Rattle.group_store.specs.Rows.{Rows, Writes, conflicts}
 use Rattle.group_store.specs.Unit.{Registers, CursorState, UnitState, nothing_at, checked_as, accessed_as, after_commit, after_roll_back}
 use Rattle.group_store.specs.Answered.{Answered, says, refuses}
-use Rattle.group_store.specs.Access.{Users, to_excsat, are_read, excsat_answered, to_accsec, accsec_answered, secchkcd_of, secchk_answered, typdef_in, by_typdef}
+use Rattle.group_store.specs.Access.{Users, to_excsat, are_read, excsat_answered, to_accsec, accsec_answered, secchkcd_of, secchk_answered, typdef_in}
+use Rattle.group_store.specs.Access.{by_typdef}
 use Rattle.group_store.specs.Access.{accrdb_answered, user_in}
 use Rattle.group_store.specs.Statement.{is_object_with, data_with, text_of, statement_in, first_data, first_statement, section_of}
 use Rattle.group_store.specs.Execute.{sees, inserted, replaced, statement_done, excsqlimm_answered, excsqlset_answered, with_sets, AfterSets, set_by}
@@ -72,7 +74,8 @@ read_set typ bytes = go (text_of typ bytes)
 
 -- what holds of registers that are set and is kept by one more holds after all
 pub after_by : (P : Registers → Type 0) → ((register : Register) (value : List ℕ) (registers : Registers) → IsSet (register, value) → P registers
-    → P (with_value register value registers)) → (typ : TypDef) (sets : List (List ℕ)) (registers : Registers) → P registers → P (after_sets typ sets registers).registers
+    → P (with_value register value registers)) → (typ : TypDef) (sets : List (List ℕ)) (registers : Registers) → P registers
+    → P (after_sets typ sets registers).registers
 after_by P keeps typ [] registers is = is
 after_by P keeps typ (bytes ∷ sets) registers is = go (statement_in typ bytes) (read_set typ bytes) (after_by P keeps typ sets)
   where
@@ -171,7 +174,8 @@ unit_kept_is = record {
   one_set = λ u register value set is. still_set register value u.registers set is;
 }
 
-end_unit : (disposition : ℕ) (outcome : SqlOutcome) (u : UnitState) (granted sets : Bool) → IsUnit u → IsUnit (ends_with disposition outcome u granted sets).unit
+end_unit : (disposition : ℕ) (outcome : SqlOutcome) (u : UnitState) (granted sets : Bool) → IsUnit u
+    → IsUnit (ends_with disposition outcome u granted sets).unit
 end_unit disposition outcome u true sets is = no_registers
 end_unit disposition outcome u false sets is = is
 
@@ -270,7 +274,8 @@ accrdb_never : is_none (next_stage Accessed point.accrdb) ≡ true
 unfolding class_of
 accrdb_never = refl
 
-pub stays_accessed : (st : Standing) (s : StoreState) (u : UnitState) (c : Command) → IsAccessed st u → (c.code ≡ point.rdbcmm → ⊥) → (c.code ≡ point.rdbrllbck → ⊥)
+pub stays_accessed : (st : Standing) (s : StoreState) (u : UnitState) (c : Command) → IsAccessed st u → (c.code ≡ point.rdbcmm → ⊥)
+    → (c.code ≡ point.rdbrllbck → ⊥)
     → IsAccessed st (unit_after s u c)
 unfolding unit_after
 stays_accessed st s u c is no_commit no_roll_back = answered_by s u c (λ (a : Answered). IsAccessed st a.unit) (record {

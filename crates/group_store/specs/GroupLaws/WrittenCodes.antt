@@ -1,5 +1,6 @@
 -- The code point of what is written with one, however long it is.
-use Rattle.std.proofs.Common.{◌≡◌, ◌⊎◌, inl, inr, ℕ, ◌-◌, ◌==◌, Bool, true, false, if◌then◌else◌, List, length, nat_le, Result, Ok, Err, ap, sym, refl, subst, ◌∙◌}
+use Rattle.std.proofs.Common.{◌≡◌, ◌⊎◌, inl, inr, ℕ, ◌-◌, ◌==◌, Bool, true, false, if◌then◌else◌, List, length, nat_le, Result, Ok, Err, ap, sym}
+use Rattle.std.proofs.Common.{refl, subst, ◌∙◌}
 use Rattle.std.proofs.lemmas.Bool.{cond_both}
 use Rattle.byteorder.specs.Endian.{big_number, big_bytes}
 use Rattle.ddm_objects.specs.declared.fault.ObjFault.{ObjFault}
