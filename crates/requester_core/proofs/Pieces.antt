@@ -1,5 +1,6 @@
 -- A reply in pieces is the reply at once.
-use Rattle.std.proofs.Common.{◌≡◌, ℕ, ◌+◌, ◌-◌, ◌≤◌, Bool, true, false, List, [], ◌∷◌, ◌++◌, length, map, take, drop, Option, Some, None, refl, sym, ap, subst, ◌∙◌}
+use Rattle.std.proofs.Common.{◌≡◌, ℕ, ◌+◌, ◌-◌, ◌≤◌, Bool, true, false, List, [], ◌∷◌, ◌++◌, length, map, take, drop}
+use Rattle.std.proofs.Common.{Option, Some, None, refl, sym, ap, subst, ◌∙◌}
 use Rattle.std.proofs.Common.{arith, if◌then◌else◌}
 use Rattle.std.specs.Prelude.{slice_get, ◌||◌, is_some}
 use Rattle.std.proofs.lemmas.List.{length-append, length-drop, map-append, append-nil, append_assoc, take-append-drop}
@@ -20,7 +21,8 @@ use Rattle.requester_core.specs.declared.reply.Judged.TheVariants.{GoesOn, Leave
 use Rattle.requester_core.specs.declared.round.Round.{Round}
 use Rattle.requester_core.specs.declared.got.Got.{Got}
 use Rattle.requester_core.specs.declared.got.Got.TheVariants.{More, Refused, Broken, TooLong}
-use Rattle.requester_core.specs.Reply.{may_come, number_of, least_after, number_place, rest_of, judged_end, judged, by_number, by_told, by_field, by_field_beyond, completed}
+use Rattle.requester_core.specs.Reply.{may_come, number_of, least_after, number_place, rest_of, judged_end, judged}
+use Rattle.requester_core.specs.Reply.{by_number, by_told, by_field, by_field_beyond, completed}
 use Rattle.requester_core.specs.Round.{commands_of, is_work}
 use Rattle.requester_core.specs.Talk.{Talking, Back, read_in, judged_piece, room_of, within, beyond, with_byte, with_beyond, after_beyond, read_all, judged_all}
 use Rattle.requester_core.specs.Talk.{after_round, got_by, given_up, back_by, back_in, back}
@@ -270,7 +272,8 @@ pub record IsOpen (round : Round) (rounds : List Round) (p : List ℕ) (t : Talk
   pub within : Within (length (commands_of round)) p t GoesOn
   pub back : back_in (round ∷ rounds) p t ≡ record { talk = read_in p t; got = More }
 
-pub goes_open : (round : Round) (rounds : List Round) (p : List ℕ) (t : Talking) → judged_all (length (commands_of round)) p t ≡ GoesOn → IsOpen round rounds p t
+pub goes_open : (round : Round) (rounds : List Round) (p : List ℕ) (t : Talking)
+    → judged_all (length (commands_of round)) p t ≡ GoesOn → IsOpen round rounds p t
 goes_open round rounds p t goes =
     let h = is_within (length (commands_of round)) p t GoesOn goes goes_on_open in
     record {

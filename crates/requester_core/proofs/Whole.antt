@@ -37,7 +37,8 @@ use Rattle.requester_core.specs.declared.round.Round.{Round}
 use Rattle.requester_core.specs.declared.round.Round.TheVariants.{Work}
 use Rattle.requester_core.specs.Reply.{may_come, number_place, rest_of, by_number, by_told, by_field, by_rest, judged_rest, judged_end, judged}
 use Rattle.requester_core.specs.Round.{commands_of}
-use Rattle.requester_core.specs.Talk.{Talking, Back, quiet, begun, read_in, judged_piece, within, beyond, after_beyond, judged_all, read_all, after_round, given_up, got_by, ended, back_by, back_in, back}
+use Rattle.requester_core.specs.Talk.{Talking, Back, quiet, begun, read_in, judged_piece, within, beyond, after_beyond, judged_all, read_all}
+use Rattle.requester_core.specs.Talk.{after_round, given_up, got_by, ended, back_by, back_in, back}
 use Rattle.requester_core.specs.Judging.{admits, stripped_by}
 use Rattle.requester_core.specs.Grammar.{AreOneChain, NeverFall, IsReply, reader_at, StandsBefore}
 use Rattle.requester_core.proofs.Pieces.{same_talk, IsFinal, Within, is_within, within_all}
@@ -370,7 +371,8 @@ position_last limit position (s ∷ []) chain = last_position s.dss.chained (pos
 position_last limit position (s ∷ next ∷ others) chain =
     position_last limit (position_after limit position s.dss (length s.bytes)) (next ∷ others) chain.1
 
-next_by : (round : Round) (rounds : List Round) (at : ℕ) (dsss : List Dss) (bytes : List ℕ) (t : Talking) → (r : IsReply (length (commands_of round)) dsss bytes)
+next_by : (round : Round) (rounds : List Round) (at : ℕ) (dsss : List Dss) (bytes : List ℕ) (t : Talking)
+    → (r : IsReply (length (commands_of round)) dsss bytes)
     → StandsBefore (after_round round rounds (read_in bytes (begun_at at t)))
 next_by round rounds at dsss bytes t r =
     let read = fresh_read at r.spelled bytes r.begins r.fits in
@@ -388,7 +390,8 @@ next_by round rounds at dsss bytes t r =
 not_less : (round : Round) (rounds : List Round) → round ∷ rounds ≡ rounds → ⊥
 not_less round rounds e = let size = ap length e in omega arith
 
-ended_next : (b : Bool) (x y : Back) (round : Round) (rounds : List Round) → y.talk.rounds ≡ round ∷ rounds → (if b then x else y).talk.rounds ≡ rounds → b ≡ true
+ended_next : (b : Bool) (x y : Back) (round : Round) (rounds : List Round) → y.talk.rounds ≡ round ∷ rounds
+    → (if b then x else y).talk.rounds ≡ rounds → b ≡ true
 ended_next true x y round rounds kept less = refl
 ended_next false x y round rounds kept less = absurd (not_less round rounds (sym kept ∙ less))
 
