@@ -1,5 +1,5 @@
 -- The commands that lead to access. DDM, volume 3, EXCSAT, ACCSEC, SECCHK, ACCRDB.
-use Rattle.std.specs.Prelude.{ℕ, ◌==◌, Bool, false, not, ◌&&◌, if◌then◌else◌, List, [], ◌∷◌, length, map, nat_le, bytes_eq, unwrap_or}
+use Rattle.std.specs.Prelude.{ℕ, ◌==◌, Bool, false, not, ◌&&◌, if◌then◌else◌, List, [], length, map, nat_le, unwrap_or}
 use Rattle.std.specs.Prelude.{Option, Some, None, is_none, option_map, option_and_then}
 use Rattle.std.specs.Ordering.{nat_cmp}
 use Rattle.std.specs.Cmp.Lexicographic.{slice_cmp}

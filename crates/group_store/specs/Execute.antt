@@ -1,5 +1,5 @@
 -- Statements that are run at once. DRDA, volume 3, EXCSQLIMM, EXCSQLSET; what the statements do is this project's own.
-use Rattle.std.specs.Prelude.{ℕ, Bool, if◌then◌else◌, List, [], ◌∷◌, is_some, Option, Some, None}
+use Rattle.std.specs.Prelude.{ℕ, if◌then◌else◌, List, [], ◌∷◌, is_some, Option, Some, None}
 use Rattle.std.specs.List.{list_any}
 use Rattle.std.specs.BTreeMap.{insert_entry}
 use Rattle.ddm_codepoints.specs.declared.typdef.TypDef.{TypDef}
@@ -7,7 +7,7 @@ use Rattle.ddm_codepoints.specs.CodePoint.{sqlstt}
 use Rattle.unit_segments.specs.declared.command.Command.{Command}
 use Rattle.member_statements.specs.declared.register.Register.{Register}
 use Rattle.member_statements.specs.declared.statement.Statement.{Statement}
-use Rattle.member_statements.specs.declared.statement.Statement.TheVariants.{Insert, Update, Delete, Set, Select}
+use Rattle.member_statements.specs.declared.statement.Statement.TheVariants.{Insert, Update, Delete, Set}
 use Rattle.group_store.specs.declared.rows.Place.{Place}
 use Rattle.member_replies.specs.declared.sql_outcome.SqlOutcome.{SqlOutcome}
 use Rattle.member_replies.specs.declared.sql_outcome.SqlOutcome.TheVariants.{Success, NotFound, NoStatement, Duplicate}

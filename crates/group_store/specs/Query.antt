@@ -9,7 +9,7 @@ use Rattle.member_statements.specs.declared.statement.Statement.{Statement}
 use Rattle.member_statements.specs.declared.statement.Statement.TheVariants.{Select}
 use Rattle.member_replies.specs.declared.sql_outcome.SqlOutcome.TheVariants.{Success, NotFound, NoStatement, CursorOpen, NotPrepared}
 use Rattle.group_store.specs.Rows.{Rows, rows_seen}
-use Rattle.group_store.specs.Unit.{CursorState, Cursors, UnitState, schema_of}
+use Rattle.group_store.specs.Unit.{CursorState, UnitState, schema_of}
 use Rattle.member_replies.specs.Reply.{message, reply_data, card_said}
 use Rattle.group_store.specs.Answered.{Answered, says}
 use Rattle.member_replies.specs.Reply.{opnqryrm_object, qrydsc_object, qrydta_object, endqryrm_object, qrynoprm_object}

@@ -1,6 +1,6 @@
 -- What a conversation has of its own. DDM, volume 3, EXCSAT, ACCSEC, SECCHK, ACCRDB; DRDA, volume 1, units of work; DRDA, volume
 -- 3, EXCSQLSET, PRPSQLSTT, OPNQRY.
-use Rattle.std.specs.Prelude.{ℕ, ◌+◌, Bool, List, [], ◌∷◌, filter, unwrap_or, Option}
+use Rattle.std.specs.Prelude.{ℕ, ◌+◌, Bool, List, [], filter, unwrap_or}
 use Rattle.std.specs.List.{AllByRecursion}
 use Rattle.std.specs.Ordering.{nat_cmp}
 use Rattle.std.specs.declared.cmp.Ordering.{Ordering}

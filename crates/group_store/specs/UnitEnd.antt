@@ -1,5 +1,5 @@
 -- The end of a unit of work. DDM, volume 3, RDBCMM, RDBRLLBCK, ENDUOWRM; DRDA, volume 3, RLSCONV, RTNSETSTT.
-use Rattle.std.specs.Prelude.{ℕ, Bool, ◌&&◌, if◌then◌else◌, List, [], ◌∷◌, ◌++◌, length, ◌==◌}
+use Rattle.std.specs.Prelude.{ℕ, Bool, ◌&&◌, if◌then◌else◌, [], ◌∷◌, length, ◌==◌}
 use Rattle.ddm_codepoints.specs.CodePoint.{rlsconv, rtnsetstt}
 use Rattle.ddm_codepoints.specs.Value.{committed, rolled_back, release, return_sets}
 use Rattle.access_handshake.specs.declared.stage.Stage.TheVariants.{Attached}
@@ -11,7 +11,7 @@ use Rattle.member_replies.specs.declared.sql_outcome.SqlOutcome.{SqlOutcome}
 use Rattle.member_replies.specs.declared.sql_outcome.SqlOutcome.TheVariants.{Success, Conflict}
 use Rattle.group_store.specs.Rows.{Rows, conflicts}
 use Rattle.group_store.specs.Unit.{UnitState, nothing_at, after_commit, after_roll_back}
-use Rattle.member_replies.specs.Reply.{Said, message, card_said, ended_object, sets_said}
+use Rattle.member_replies.specs.Reply.{message, card_said, ended_object, sets_said}
 use Rattle.group_store.specs.Answered.{Answered}
 
 -- ---- what is asked

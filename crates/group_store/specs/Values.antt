@@ -6,7 +6,7 @@ use Rattle.byteorder.specs.Endian.{big_bytes}
 use Rattle.ddm_codepoints.specs.declared.typdef.TypDef.{TypDef}
 use Rattle.reply_texts.specs.Text.{codes_in}
 use Rattle.access_handshake.specs.declared.stage.Stage.{Stage}
-use Rattle.access_handshake.specs.declared.stage.Stage.TheVariants.{New, Attached, Chosen, Checked, Accessed}
+use Rattle.access_handshake.specs.declared.stage.Stage.TheVariants.{Accessed}
 use Rattle.unit_segments.specs.Command.{data_of}
 use Rattle.unit_segments.specs.Registers.{Register as Logged, key_of}
 use Rattle.member_statements.specs.declared.register.Register.{Register}

@@ -19,8 +19,7 @@ use Rattle.requester_core.specs.declared.reply.Rest.{Rest}
 use Rattle.requester_core.specs.declared.reply.Judged.{Judged}
 use Rattle.requester_core.specs.declared.reply.Judged.TheVariants.{GoesOn, Leaves, Passes, Ends}
 use Rattle.requester_core.specs.declared.round.Round.{Round}
-use Rattle.requester_core.specs.declared.got.Got.{Got}
-use Rattle.requester_core.specs.declared.got.Got.TheVariants.{More, Refused, Broken, TooLong}
+use Rattle.requester_core.specs.declared.got.Got.TheVariants.{More, Refused, TooLong}
 use Rattle.requester_core.specs.Reply.{may_come, number_of, least_after, number_place, rest_of, judged_end, judged}
 use Rattle.requester_core.specs.Reply.{by_number, by_told, by_field, by_field_beyond, completed}
 use Rattle.requester_core.specs.Round.{commands_of, is_work}

@@ -1,16 +1,15 @@
 -- What is read as a whole reply is one, and a reply is read as a whole one.
-use Rattle.std.proofs.Common.{◌≡◌, ℕ, zero, suc, ◌+◌, ◌-◌, ◌<◌, ◌≤◌, ◌⊎◌, ◌||◌, Bool, true, false, if◌then◌else◌, List, [], ◌∷◌, ◌++◌, length, map, take, drop}
-use Rattle.std.proofs.Common.{Option, Some, None, is_some, All, refl, sym, ap, subst, ◌∙◌, arith, nat_le, inl, inr}
+use Rattle.std.proofs.Common.{◌≡◌, ℕ, zero, suc, ◌+◌, ◌-◌, ◌≤◌, ◌⊎◌, ◌||◌, Bool, true, false, if◌then◌else◌, List, [], ◌∷◌, ◌++◌, length, map, take, drop}
+use Rattle.std.proofs.Common.{Option, Some, None, is_some, refl, sym, ap, subst, ◌∙◌, arith, nat_le, inl, inr}
 use Rattle.std.specs.List.{AllByRecursion}
 use Rattle.std.proofs.lemmas.Bool.{and_parts, and_from, leb-true, leb-false, le-leb}
-use Rattle.std.proofs.lemmas.List.{length-append, length-drop, append-nil, append_assoc, take_at, drop_at, take-append-drop}
+use Rattle.std.proofs.lemmas.List.{length-append, append-nil, append_assoc, take_at, drop_at}
 use Rattle.link_ends.specs.Bytes.{AreBytes}
 use Rattle.dss_frame.specs.declared.dss.Dss.{Dss}
 use Rattle.dss_frame.specs.declared.dss.Placed.{Placed}
 use Rattle.dss_frame.specs.declared.dss.Side.TheVariants.{Replies}
 use Rattle.dss_frame.specs.declared.fault.StreamFault.{StreamFault}
 use Rattle.dss_frame.specs.declared.fault.StreamFault.TheVariants as fault
-use Rattle.dss_frame.specs.declared.fault.Why.{Why}
 use Rattle.dss_frame.specs.declared.fault.Why.TheVariants.{Short, NoD0, Format, Continue}
 use Rattle.dss_frame.specs.declared.step.Position.{Position}
 use Rattle.dss_frame.specs.Segments.{extent_of, dss_of}
@@ -28,20 +27,19 @@ use Rattle.unit_segments.specs.declared.command.Command.{Command}
 use Rattle.unit_segments.specs.declared.stripped.Stripped.{Stripped}
 use Rattle.unit_segments.specs.Strip.{stripped}
 use Rattle.unit_segments.specs.Accepts.{are_readable}
-use Rattle.requester_core.specs.declared.got.Got.{Got}
 use Rattle.requester_core.specs.declared.got.Got.TheVariants.{Whole, Refused}
 use Rattle.requester_core.specs.declared.reply.Rest.{Rest}
 use Rattle.requester_core.specs.declared.reply.Judged.{Judged}
 use Rattle.requester_core.specs.declared.reply.Judged.TheVariants.{GoesOn, Leaves, Passes, Ends}
 use Rattle.requester_core.specs.declared.round.Round.{Round}
 use Rattle.requester_core.specs.declared.round.Round.TheVariants.{Work}
-use Rattle.requester_core.specs.Reply.{may_come, number_place, rest_of, by_number, by_told, by_field, by_rest, judged_rest, judged_end, judged}
+use Rattle.requester_core.specs.Reply.{may_come, number_place, rest_of, by_rest, judged_end, judged}
 use Rattle.requester_core.specs.Round.{commands_of}
-use Rattle.requester_core.specs.Talk.{Talking, Back, quiet, begun, read_in, judged_piece, within, beyond, after_beyond, judged_all, read_all}
+use Rattle.requester_core.specs.Talk.{Talking, Back, quiet, begun, read_in, judged_piece, within, judged_all, read_all}
 use Rattle.requester_core.specs.Talk.{after_round, given_up, got_by, ended, back_by, back_in, back}
 use Rattle.requester_core.specs.Judging.{admits, stripped_by}
 use Rattle.requester_core.specs.Grammar.{AreOneChain, NeverFall, IsReply, reader_at, StandsBefore}
-use Rattle.requester_core.proofs.Pieces.{same_talk, IsFinal, Within, is_within, within_all}
+use Rattle.requester_core.proofs.Pieces.{same_talk, IsFinal, is_within, within_all}
 
 -- ---- spellings are read
 

@@ -3,7 +3,6 @@
 use Rattle.std.specs.Prelude.{◌≡◌, ℕ, ◌≤◌, true, false, List, [], ◌∷◌, map, length}
 use Rattle.dss_frame.specs.declared.dss.Dss.{Dss}
 use Rattle.dss_frame.specs.declared.dss.Side.TheVariants.{Replies}
-use Rattle.dss_frame.specs.declared.step.Position.{Position}
 use Rattle.dss_frame.specs.Spelling.{Spelled, Begins}
 use Rattle.dss_frame.specs.Reading.{View, start}
 use Rattle.requester_core.specs.Reply.{most_reply_bytes}

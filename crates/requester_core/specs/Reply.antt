@@ -1,8 +1,8 @@
 -- The grammar of a reply: DRDA, volume 3, DSS: chaining. DSSs of a server, chained but for the last, whose correlation numbers never
 -- fall, each that of a command of the chain that they answer; these are numbered from 1. That another number, or a byte behind
 -- the last DSS, leaves it at once is this project's own.
-use Rattle.std.specs.Prelude.{ℕ, ◌+◌, ◌-◌, ◌*◌, not, ◌||◌, ◌&&◌, ◌==◌, Bool, true, false, if◌then◌else◌, List, [], ◌∷◌, length, nat_le, slice_get, slice_index}
-use Rattle.std.specs.Prelude.{Option, Some, None, is_some, option_map, unwrap_or}
+use Rattle.std.specs.Prelude.{ℕ, ◌+◌, ◌-◌, ◌*◌, ◌||◌, ◌&&◌, ◌==◌, Bool, if◌then◌else◌, List, [], ◌∷◌, length, nat_le, slice_get, slice_index}
+use Rattle.std.specs.Prelude.{Option, Some, None, is_some}
 use Rattle.dss_frame.specs.declared.dss.Dss.{Dss}
 use Rattle.dss_frame.specs.declared.dss.Placed.{Placed}
 use Rattle.dss_frame.specs.declared.fault.Why.{Why}

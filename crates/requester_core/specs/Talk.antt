@@ -1,7 +1,6 @@
 -- The gateway's end of a conversation with a server: what is still to be sent, and what was read of the reply to the chain in work. No
 -- standard speaks of it: this is this project's own.
-use Rattle.std.specs.Prelude.{ℕ, ◌+◌, ◌-◌, ◌≤◌, Bool, false, List, [], ◌∷◌, ◌++◌, map, length, take, drop, nat_lt, if◌then◌else◌, Option, Some, None}
-use Rattle.std.specs.List.{AllByRecursion}
+use Rattle.std.specs.Prelude.{ℕ, ◌+◌, ◌-◌, Bool, false, List, [], ◌∷◌, ◌++◌, map, length, take, drop, nat_lt, if◌then◌else◌, Option, Some, None}
 use Rattle.dss_frame.specs.declared.dss.Dss.{Dss}
 use Rattle.dss_frame.specs.declared.dss.Placed.{Placed}
 use Rattle.dss_frame.specs.declared.dss.Side.TheVariants.{Replies}
@@ -15,7 +14,6 @@ use Rattle.unit_segments.specs.declared.command.Command.{Command}
 use Rattle.unit_segments.specs.declared.stripped.Stripped.{Stripped}
 use Rattle.unit_segments.specs.Registers.{Register}
 use Rattle.requester_core.specs.declared.round.Round.{Round}
-use Rattle.requester_core.specs.declared.round.Round.TheVariants as round
 use Rattle.requester_core.specs.declared.got.Got.{Got}
 use Rattle.requester_core.specs.declared.got.Got.TheVariants.{More, Refused, Broken, TooLong, Ready, Whole}
 use Rattle.requester_core.specs.declared.reply.Judged.{Judged}

@@ -1,20 +1,17 @@
 -- Access leads the units of the small group where a session's commands lead the session.
-use Rattle.std.proofs.Common.{◌≡◌, ◌⊎◌, inl, inr, ℕ, ◌==◌, ◌&&◌, Bool, true, false, not, if◌then◌else◌, cond, List, [], ◌∷◌, length, refl, sym, ap}
+use Rattle.std.proofs.Common.{◌≡◌, ℕ, ◌==◌, Bool, true, false, not, if◌then◌else◌, List, [], ◌∷◌, length, refl, sym, ap}
 use Rattle.std.proofs.Common.{◌∙◌, subst, arith, true≢false}
-use Rattle.std.proofs.Common.{Option, Some, None, is_some, is_none}
-use Rattle.std.specs.Prelude.{bytes_eq, unwrap_or, option_and_then}
-use Rattle.std.specs.List.{AllByRecursion}
+use Rattle.std.proofs.Common.{Option, Some, None, is_none}
+use Rattle.std.specs.Prelude.{bytes_eq, unwrap_or}
 use Rattle.std.proofs.lemmas.Bool.{cond_both, cond-true, cond-false, and_parts}
 use Rattle.std.proofs.lemmas.Slice.Eq.{bytes_eq-Decides}
-use Rattle.byteorder.specs.Endian.{big_number, big_bytes}
+use Rattle.byteorder.specs.Endian.{big_bytes}
 use Rattle.byteorder.specs.Numbers.{length-bytes_high_first}
-use Rattle.dss_frame.specs.declared.dss.Dss.{Dss}
 use Rattle.ddm_objects.specs.Objects.{extent_at, object_at, first_object}
 use Rattle.ddm_objects.specs.Members.{members_within}
 use Rattle.ddm_codepoints.specs.declared.typdef.TypDef.{TypDef}
 use Rattle.ddm_codepoints.specs.declared.typdef.TypDef.TheVariants.{SqlAsc}
 use Rattle.ddm_codepoints.specs.Character.{ebcdic_of}
-use Rattle.ddm_codepoints.specs.TypDef.{typdef_of}
 use Rattle.ddm_codepoints.specs.CodeClass.{class_of}
 use Rattle.ddm_codepoints.specs.CodePoint as point
 use Rattle.ddm_codepoints.specs.Value.{info, error, admitted}
@@ -24,17 +21,17 @@ use Rattle.access_handshake.specs.declared.stage.Stage.{Stage}
 use Rattle.access_handshake.specs.declared.stage.Stage.TheVariants.{New, Attached, Chosen, Checked, Accessed}
 use Rattle.access_handshake.specs.Parameter.{parameter}
 use Rattle.access_handshake.specs.Excsat.{excsat_answer}
-use Rattle.access_handshake.specs.Accsec.{has_secmec, accsecrd_chosen, accsecrd_offer, accsec_answer}
+use Rattle.access_handshake.specs.Accsec.{has_secmec, accsecrd_offer, accsec_answer}
 use Rattle.access_handshake.specs.Access.{hello_object, accsec_object}
 use Rattle.access_handshake.specs.Stage.{next_stage}
 use Rattle.unit_segments.specs.declared.command.Command.{Command}
 use Rattle.unit_segments.specs.Command.{data_of}
 use Rattle.unit_segments.specs.Registers.{Register as Logged, set_command, log_chain}
-use Rattle.unit_segments.specs.Handshake.{own_command, access_commands, register_commands, replayed}
-use Rattle.unit_segments.specs.Accepts.{is_data, gives_mechanism, gives_admission, has_accrdbrm, gives_access, are_readable, accepts}
+use Rattle.unit_segments.specs.Handshake.{own_command, replayed}
+use Rattle.unit_segments.specs.Accepts.{gives_mechanism, gives_admission, has_accrdbrm, are_readable, accepts}
 use Rattle.member_replies.specs.Reply.{Said, message, reply_data, dsss_of, secchkrm_object, accrdbrm_object, valnsprm_object}
 use Rattle.plain_model.specs.Standing.{Standing, attached, register_typdef, accessed, checked}
-use Rattle.plain_model.specs.Group.{Meaning, Leads, told_typdef, led, answers}
+use Rattle.plain_model.specs.Group.{Leads, told_typdef}
 use Rattle.group_store.specs.Unit.{UnitState, nothing_at, checked_as, accessed_as}
 use Rattle.group_store.specs.Answered.{Answered, says, refuses}
 use Rattle.group_store.specs.Access.{Users, to_accsec, accsec_answered, secchkcd_of, secchk_answered, user_in, typdef_in, by_typdef, accrdb_answered}
@@ -43,7 +40,6 @@ use Rattle.group_store.specs.Store.{StoreState, is_known, done, answered, data_a
 use Rattle.group_store.specs.Values.{store_values}
 use Rattle.group_store.specs.GroupLaws.Cases.{IsNow}
 use Rattle.group_store.specs.GroupLaws.Replies.{accsec_by}
-use Rattle.group_store.specs.GroupLaws.Same.{data_by_code}
 
 -- ---- which answer it is
 

@@ -1,9 +1,9 @@
 -- The small group keeps the laws of groups.
-use Rattle.std.proofs.Common.{◌≡◌, ◌≢◌, ◌⊎◌, inl, inr, ℕ, ◌==◌, ◌&&◌, Bool, true, false, not, if◌then◌else◌, cond, List, [], ◌∷◌, map, refl, sym, ap}
-use Rattle.std.proofs.Common.{◌∙◌, subst, arith, true≢false}
+use Rattle.std.proofs.Common.{◌≡◌, ◌≢◌, inl, inr, ℕ, ◌==◌, ◌&&◌, Bool, true, false, not, List, [], ◌∷◌, refl, sym, ap}
+use Rattle.std.proofs.Common.{◌∙◌, subst, true≢false}
 use Rattle.std.proofs.Common.{Option, Some, None, is_some, is_none, eqb-true}
 use Rattle.std.specs.List.{AllByRecursion}
-use Rattle.std.proofs.lemmas.Bool.{cond_both, cond-true, cond-false, and_parts, eq-eqb, ne_eqb}
+use Rattle.std.proofs.lemmas.Bool.{cond_both, cond-false, and_parts, eq-eqb}
 use Rattle.dss_frame.specs.declared.dss.Dss.{Dss}
 use Rattle.ddm_objects.specs.Objects.{extent_at, object_at, first_object}
 use Rattle.ddm_codepoints.specs.CodeClass.{class_of}
@@ -11,25 +11,24 @@ use Rattle.ddm_codepoints.specs.CodePoint.{rdbcmm, rdbrllbck}
 use Rattle.ddm_codepoints.specs.Value.{committed, rolled_back}
 use Rattle.reply_texts.specs.Reply.{prccnv_object}
 use Rattle.access_handshake.specs.declared.stage.Stage.{Stage}
-use Rattle.access_handshake.specs.declared.stage.Stage.TheVariants.{New, Attached, Chosen, Checked, Accessed}
+use Rattle.access_handshake.specs.declared.stage.Stage.TheVariants.{Attached, Accessed}
 use Rattle.access_handshake.specs.Stage.{next_stage}
 use Rattle.unit_segments.specs.declared.command.Command.{Command}
 use Rattle.unit_segments.specs.Command.{ends_unit}
 use Rattle.unit_segments.specs.Release.{asked, asked_body}
-use Rattle.plain_model.specs.Standing.{Standing, log_with}
-use Rattle.plain_model.specs.UnitEnd.{unasked, ends, releases, says_committed, commits, sets_in, without_asked}
-use Rattle.plain_model.specs.Group.{Laws, IsCommand, IsReplyTo, AreReplies, IsSame}
+use Rattle.plain_model.specs.UnitEnd.{unasked, ends, releases, says_committed, commits, without_asked}
+use Rattle.plain_model.specs.Group.{Laws, IsCommand, IsReplyTo, AreReplies}
 use Rattle.member_replies.specs.declared.sql_outcome.SqlOutcome.TheVariants as outcome
-use Rattle.member_replies.specs.Reply.{Said, message, dss_of, dsss_of}
+use Rattle.member_replies.specs.Reply.{Said, message, dsss_of}
 use Rattle.group_store.specs.Rows.{conflicts}
 use Rattle.group_store.specs.Unit.{UnitState, nothing_at, after_commit, after_roll_back}
-use Rattle.group_store.specs.Answered.{Answered, refuses}
+use Rattle.group_store.specs.Answered.{Answered}
 use Rattle.group_store.specs.UnitEnd.{asks_release, asks_sets, has_no_cursor, ended, rdbcmm_answered, rdbrllbck_answered}
 use Rattle.group_store.specs.Store.{StoreState, answered, commits_now, with_commit, data_after, unit_after, replies, base, store_meaning}
-use Rattle.group_store.specs.Values.{IsAccessed, Stands, StandsAt, IsUnit, store_values}
+use Rattle.group_store.specs.Values.{IsUnit, store_values}
 use Rattle.group_store.specs.GroupLaws.Replies.{IsFine, AreFine, all_fine, readable, end_fits}
 use Rattle.group_store.specs.GroupLaws.Asking.{ends_code}
-use Rattle.group_store.specs.GroupLaws.Ends.{ended_replies, it_releases, it_commits, it_rolls_back, it_says}
+use Rattle.group_store.specs.GroupLaws.Ends.{it_releases, it_commits, it_rolls_back, it_says}
 use Rattle.group_store.specs.GroupLaws.Units.{unit_stays}
 use Rattle.group_store.specs.GroupLaws.Same.{made_same, data_by_code, does_the_same}
 use Rattle.group_store.specs.GroupLaws.UnitEnds.{EndsUnit, commit_answered, roll_back_answered, not_now_answered, left, Both, both_of, asked_code, unasked_code}

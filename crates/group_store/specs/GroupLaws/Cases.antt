@@ -1,8 +1,8 @@
 -- What a command is answered, by its code point.
-use Rattle.std.proofs.Common.{◌≡◌, ◌≢◌, ◌⊎◌, inl, inr, ℕ, ◌==◌, Bool, true, false, not, ◌||◌, if◌then◌else◌, ap, sym, refl, subst, ◌∙◌, is_none}
+use Rattle.std.proofs.Common.{◌≡◌, ℕ, ◌==◌, Bool, true, false, not, if◌then◌else◌, sym, refl, is_none}
 use Rattle.std.proofs.Common.{eqb-true, true≢false}
 use Rattle.std.proofs.lemmas.Bool.{cond_both}
-use Rattle.ddm_codepoints.specs.CodePoint.{excsat, accsec, secchk, accrdb, rdbcmm, rdbrllbck, excsqlimm, excsqlset, prpsqlstt, opnqry, cntqry, clsqry}
+use Rattle.ddm_codepoints.specs.CodePoint.{excsat, accsec, secchk, accrdb, rdbcmm, rdbrllbck, excsqlimm, excsqlset, prpsqlstt, opnqry, cntqry}
 use Rattle.reply_texts.specs.Reply.{cmdnsp_object, prccnv_object}
 use Rattle.access_handshake.specs.Stage.{next_stage}
 use Rattle.unit_segments.specs.declared.command.Command.{Command}

@@ -1,15 +1,14 @@
 -- What the replies to a command that ends a unit of work say.
-use Rattle.std.proofs.Common.{◌≡◌, ◌⊎◌, inl, inr, ℕ, ◌≤◌, ◌==◌, ◌&&◌, ◌||◌, Bool, true, false, not, if◌then◌else◌, cond, List, [], ◌∷◌, ◌++◌, length}
+use Rattle.std.proofs.Common.{◌≡◌, ℕ, ◌==◌, ◌&&◌, ◌||◌, Bool, true, false, not, if◌then◌else◌, List, [], ◌∷◌}
 use Rattle.std.proofs.Common.{map, filter, find}
-use Rattle.std.proofs.Common.{Option, Some, None, is_some, refl, sym, ap, ◌∙◌, subst, arith, true≢false, eqb-true}
+use Rattle.std.proofs.Common.{Some, is_some, refl, sym, ap, ◌∙◌, arith}
 use Rattle.std.specs.List.{AllByRecursion}
-use Rattle.std.proofs.lemmas.Bool.{cond_both, cond-true, cond-false, eq-eqb}
+use Rattle.std.proofs.lemmas.Bool.{cond-true, eq-eqb}
 use Rattle.dss_frame.specs.declared.dss.Dss.{Dss}
-use Rattle.ddm_objects.specs.Objects.{Member, canonical_object, extent_at, object_at, first_object}
+use Rattle.ddm_objects.specs.Objects.{Member, extent_at, object_at, first_object}
 use Rattle.ddm_objects.specs.Members.{members_within}
 use Rattle.ddm_objects.proofs.Reading.Spelled.{canonical_outer}
 use Rattle.ddm_codepoints.specs.declared.typdef.TypDef.{TypDef}
-use Rattle.ddm_codepoints.specs.declared.typdef.TypDef.TheVariants.{Sql370}
 use Rattle.ddm_codepoints.specs.Character.{ebcdic_of}
 use Rattle.ddm_codepoints.specs.CodePoint as point
 use Rattle.ddm_codepoints.specs.Value.{committed, rolled_back, release}
@@ -22,7 +21,7 @@ use Rattle.unit_segments.specs.Strip.{Marked, is_object_of, answers as answers_w
 use Rattle.plain_model.specs.UnitEnd.{end_of, ends, releases, says_committed, sets_in, without_asked}
 use Rattle.member_replies.specs.declared.sql_outcome.SqlOutcome.{SqlOutcome}
 use Rattle.member_replies.specs.declared.sql_outcome.SqlOutcome.TheVariants as outcome
-use Rattle.member_replies.specs.Reply.{Said, message, reply_data, dss_of, dsss_of, card_of, card_said, ended_object, set_object, sets_said}
+use Rattle.member_replies.specs.Reply.{message, reply_data, dss_of, dsss_of, card_said, ended_object, set_object, sets_said}
 use Rattle.group_store.specs.Unit.{Registers, UnitState}
 use Rattle.group_store.specs.Values.{IsSet, set_data}
 use Rattle.group_store.specs.UnitEnd.{ends_with}

@@ -1,28 +1,25 @@
 -- The log of a session: what it keeps of the registers that it was told, and which registers it sets again.
-use Rattle.std.proofs.Common.{◌≡◌, ◌⊎◌, inl, inr, ℕ, ◌≤◌, ◌==◌, ◌&&◌, ◌||◌, Bool, true, false, not, if◌then◌else◌, cond, List, [], ◌∷◌, ◌++◌, length}
+use Rattle.std.proofs.Common.{◌≡◌, ◌⊎◌, inl, inr, ℕ, ◌==◌, ◌&&◌, ◌||◌, Bool, true, false, not, if◌then◌else◌, cond, List, [], ◌∷◌, ◌++◌, length}
 use Rattle.std.proofs.Common.{map, filter}
-use Rattle.std.proofs.Common.{Option, Some, None, Result, Ok, Err, refl, sym, ap, ◌∙◌, subst, arith, true≢false, nat_le, nat_lt}
+use Rattle.std.proofs.Common.{Option, Some, None, Result, Ok, Err, refl, sym, ap, ◌∙◌, arith, true≢false, nat_le, nat_lt}
 use Rattle.std.specs.Prelude.{bytes_eq}
 use Rattle.std.specs.List.{AllByRecursion, list_any}
-use Rattle.std.proofs.lemmas.Bool.{cond_both, cond-true, cond-false, eq-eqb}
+use Rattle.std.proofs.lemmas.Bool.{cond_both, cond-true, eq-eqb}
 use Rattle.ddm_objects.specs.Objects.{Member, canonical_object}
 use Rattle.ddm_objects.proofs.Reading.Spelled.{canonical_outer}
 use Rattle.ddm_codepoints.specs.declared.typdef.TypDef.{TypDef}
 use Rattle.ddm_codepoints.specs.CodePoint.{sqlstt}
-use Rattle.access_handshake.specs.declared.stage.Stage.TheVariants.{Accessed}
-use Rattle.unit_segments.specs.declared.command.Command.{Command}
 use Rattle.unit_segments.specs.declared.registers.RegisterFault.{RegisterFault}
 use Rattle.unit_segments.specs.declared.registers.RegisterFault.TheVariants.{TooMany, TooLong}
 use Rattle.unit_segments.specs.Command.{code_by, code_of, data_by, data_of}
 use Rattle.unit_segments.specs.Registers.{Register as Logged, most_registers, most_text, set_of, key_of, has_key, with_register, with_set, AfterSets, after_set}
-use Rattle.unit_segments.specs.Registers.{with_sets, set_command}
+use Rattle.unit_segments.specs.Registers.{with_sets}
 use Rattle.member_statements.specs.declared.statement.Statement.{Statement}
-use Rattle.member_statements.specs.declared.statement.Statement.TheVariants.{Set}
 use Rattle.member_replies.specs.declared.sql_outcome.SqlOutcome.TheVariants.{Success, NoStatement}
 use Rattle.member_replies.specs.Reply.{card_said}
 use Rattle.group_store.specs.Unit.{Registers, UnitState, accessed_as}
 use Rattle.group_store.specs.Answered.{Answered, says}
-use Rattle.group_store.specs.Statement.{is_object_with, data_with, statement_in}
+use Rattle.group_store.specs.Statement.{is_object_with, data_with}
 use Rattle.group_store.specs.Execute.{AfterSets as Set_all, set_by, after_sets, with_value, with_sets as unit_with, excsqlset_answered}
 use Rattle.group_store.specs.Store.{with_log}
 use Rattle.group_store.specs.Values.{IsSet, set_data, logged}

@@ -1,18 +1,18 @@
 -- Parameters that are kept of a command are read again, whatever stands behind them.
-use Rattle.std.proofs.Common.{◌≡◌, ℕ, zero, suc, ◌+◌, ◌-◌, ◌<◌, ◌≤◌, Bool, true, false, cond, eqb, ltb, List, [], ◌∷◌, ◌++◌, length, take, drop}
+use Rattle.std.proofs.Common.{◌≡◌, ℕ, zero, suc, ◌+◌, ◌-◌, ◌<◌, ◌≤◌, Bool, true, false, cond, eqb, List, [], ◌∷◌, ◌++◌, length, take, drop}
 use Rattle.std.proofs.Common.{Option, Some, None, Result, Ok, Err, refl, sym, ap, ◌∙◌, subst, arith, true≢false}
 use Rattle.std.specs.List.{AllByRecursion}
-use Rattle.std.proofs.lemmas.Bool.{le-ltb, lt-ltb, eqb-true, cond-true, cond-false}
+use Rattle.std.proofs.lemmas.Bool.{le-ltb, lt-ltb, eqb-true, cond-false}
 use Rattle.std.proofs.lemmas.List.{append_assoc, length-append, length-take, length-drop, take-append-drop, take_at, drop_at, drop-append-le, drop-take}
 use Rattle.byteorder.specs.Endian.{big_number}
 use Rattle.byteorder.specs.Numbers.{big_from-append}
 use Rattle.ddm_objects.specs.declared.fault.ObjFault.{ObjFault}
 use Rattle.ddm_objects.specs.Objects.{Member, Form, Short, ToEnd, Extended4, Extended6, Extended8, Found, Extent, greatest_extended, extended_at, extent_at}
 use Rattle.ddm_objects.specs.Objects.{object_at}
-use Rattle.ddm_objects.specs.Members.{Members, past, with_first, members_within, first_with, found_or_fault, find_of}
+use Rattle.ddm_objects.specs.Members.{Members, past, with_first, members_within, first_with, found_or_fault}
 use Rattle.ddm_objects.proofs.Reading.Read.{IsExtended, IsMeasured, extent_found, object_there, object_found, found_size}
 use Rattle.access_handshake.specs.Parameter.{data_of as found_data, parameter}
-use Rattle.unit_segments.specs.Release.{kept_by, kept_within, kept_members}
+use Rattle.unit_segments.specs.Release.{kept_by, kept_within}
 
 -- ---- an object, with other bytes behind it
 

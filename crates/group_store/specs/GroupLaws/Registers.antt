@@ -1,5 +1,5 @@
 -- Lists of registers: in order, set again, and told.
-use Rattle.std.proofs.Common.{◌≡◌, ◌≢◌, ◌⊎◌, inl, inr, ℕ, suc, ◌+◌, ◌<◌, ◌≤◌, ◌==◌, Bool, true, false, if◌then◌else◌, cond, List, [], ◌∷◌, ◌++◌, refl}
+use Rattle.std.proofs.Common.{◌≡◌, ◌⊎◌, inl, inr, ℕ, suc, ◌≤◌, ◌==◌, Bool, true, false, if◌then◌else◌, cond, List, [], ◌∷◌, ◌++◌, refl}
 use Rattle.std.proofs.Common.{sym, ap, ◌∙◌, subst, arith, true≢false, eqb-true}
 use Rattle.std.proofs.Common.{map, ◌||◌}
 use Rattle.std.proofs.lemmas.Bool.{eq-eqb}
@@ -8,10 +8,9 @@ use Rattle.std.specs.Ordering.{nat_cmp, match_ordering}
 use Rattle.std.specs.Cmp.{ranked}
 use Rattle.std.specs.declared.cmp.Ordering.{Ordering}
 use Rattle.std.specs.declared.cmp.Ordering.TheVariants.{Less, Equal, Greater}
-use Rattle.std.specs.BTreeMap.{insert_entry}
 use Rattle.member_statements.specs.declared.register.Register.{Register}
 use Rattle.member_statements.specs.declared.register.Register.TheVariants.{Schema, Degree, Path, Numbered}
-use Rattle.group_store.specs.Unit.{register_rank, register_order, Registers}
+use Rattle.group_store.specs.Unit.{register_rank, Registers}
 use Rattle.group_store.specs.Execute.{with_value}
 use Rattle.group_store.specs.Values.{IsSet, AreOrdered, AreSet, IsAmong, HasRegister}
 

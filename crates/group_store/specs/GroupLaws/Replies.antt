@@ -1,12 +1,11 @@
 -- Each reply of the small group is one to its command.
-use Rattle.std.proofs.Common.{◌≡◌, ◌≢◌, ℕ, ◌≤◌, ◌==◌, ◌&&◌, Bool, true, false, not, if◌then◌else◌, List, [], ◌∷◌, ◌++◌, length, map, ap, sym, refl}
+use Rattle.std.proofs.Common.{◌≡◌, ℕ, ◌≤◌, ◌==◌, ◌&&◌, Bool, true, false, List, [], ◌∷◌, ◌++◌, length, sym, refl}
 use Rattle.std.proofs.Common.{subst, ◌∙◌, arith}
-use Rattle.std.proofs.Common.{Option, Some, None, is_some, is_none, Result, Ok, Err, true≢false}
+use Rattle.std.proofs.Common.{Option, Some, None, is_some, Result, Ok, Err, true≢false}
 use Rattle.std.proofs.lemmas.Bool.{cond_both, leb-true}
 use Rattle.std.specs.Prelude.{codes}
 use Rattle.std.specs.List.{AllByRecursion, list_any}
 use Rattle.byteorder.specs.Endian.{big_number, big_bytes}
-use Rattle.dss_frame.specs.declared.dss.Dss.{Dss}
 use Rattle.dss_frame.specs.declared.dss.Kind.{Kind}
 use Rattle.dss_frame.specs.declared.dss.Kind.TheVariants as kind
 use Rattle.ddm_objects.specs.declared.fault.ObjFault.{ObjFault}
@@ -18,11 +17,9 @@ use Rattle.ddm_codepoints.specs.Character.{ebcdic_of, ascii_of, ebcdic_text}
 use Rattle.ddm_codepoints.specs.TypDef.{typdef_of, qtdsql370}
 use Rattle.ddm_codepoints.specs.CodePoint as point
 use Rattle.ddm_codepoints.specs.Value.{info, warning, error, admitted, rolled_back, committed, release, user_and_password, user_alone}
-use Rattle.reply_texts.specs.declared.sqlcard.Card.{Card}
 use Rattle.reply_texts.specs.Sqlcard.{card_bytes, sqlcard_object}
 use Rattle.reply_texts.specs.Text.{codes_in}
 use Rattle.reply_texts.specs.Reply.{severity, cmdnsp_object, prccnv_object, enduow_object}
-use Rattle.access_handshake.specs.declared.stage.Stage.TheVariants as stage
 use Rattle.access_handshake.specs.declared.excsat.ExcsatAnswer.{ExcsatAnswer}
 use Rattle.access_handshake.specs.declared.excsat.ExcsatAnswer.TheVariants.{Granted, TooLow}
 use Rattle.access_handshake.specs.declared.accsec.AccsecAnswer.{AccsecAnswer}
@@ -35,30 +32,28 @@ use Rattle.access_handshake.specs.Accepted.{accepted_of}
 use Rattle.unit_segments.specs.declared.command.Command.{Command}
 use Rattle.unit_segments.specs.Command.{code_of, data_of}
 use Rattle.unit_segments.specs.Chain.{is_request}
-use Rattle.unit_segments.specs.Limit.{most_chain_bytes, most_reply_body}
+use Rattle.unit_segments.specs.Limit.{most_chain_bytes}
 use Rattle.unit_segments.specs.Strip.{is_object_of, FitsAReply}
 use Rattle.member_statements.specs.declared.statement.Statement.{Statement}
 use Rattle.member_statements.specs.declared.statement.Statement.TheVariants.{Insert, Update, Delete, Set, Select}
-use Rattle.member_statements.specs.declared.register.Register.{Register}
 use Rattle.member_statements.specs.Register.{set_text}
 use Rattle.member_replies.specs.declared.sql_outcome.SqlOutcome.{SqlOutcome}
 use Rattle.member_replies.specs.declared.sql_outcome.SqlOutcome.TheVariants as outcome
-use Rattle.member_replies.specs.Reply.{Said, message, reply_data, dss_of, dsss_of, card_of, card_said, secchkrm_object, accrdbrm_object, valnsprm_object}
-use Rattle.member_replies.specs.Reply.{opnqryrm_object, qrydsc_object, qrydta_object, endqryrm_object, qrynoprm_object, ended_object, set_object, sets_said}
-use Rattle.group_store.specs.Rows.{Rows, Writes, conflicts}
-use Rattle.group_store.specs.Unit.{UnitState, Registers, CursorState, nothing_at, checked_as, accessed_as, after_commit, after_roll_back}
-use Rattle.group_store.specs.Answered.{Answered, says, refuses}
+use Rattle.member_replies.specs.Reply.{Said, message, reply_data, dss_of, card_of, card_said, secchkrm_object, accrdbrm_object, valnsprm_object}
+use Rattle.member_replies.specs.Reply.{opnqryrm_object, qrydsc_object, qrydta_object, endqryrm_object, qrynoprm_object, ended_object, sets_said}
+use Rattle.group_store.specs.Rows.{Rows, conflicts}
+use Rattle.group_store.specs.Unit.{UnitState, Registers, CursorState, after_commit, after_roll_back}
+use Rattle.group_store.specs.Answered.{Answered, refuses}
 use Rattle.group_store.specs.Access.{Users, with_levels, to_excsat, are_read, excsat_answered, to_accsec, accsec_answered, secchkcd_of}
 use Rattle.group_store.specs.Access.{secchk_answered, typdef_in, by_typdef}
-use Rattle.group_store.specs.Access.{accrdb_answered}
 use Rattle.group_store.specs.Statement.{is_object_with, data_with, first_statement, section_of}
-use Rattle.group_store.specs.Execute.{sees, inserted, replaced, statement_done, excsqlimm_answered, excsqlset_answered, with_sets, after_sets, writes}
-use Rattle.group_store.specs.Query.{in_section, is_select, prepared, prpsqlstt_answered, opens, opnqry_answered, fetched, fetches, cntqry_answered}
+use Rattle.group_store.specs.Execute.{sees, statement_done, excsqlimm_answered, excsqlset_answered, after_sets}
+use Rattle.group_store.specs.Query.{in_section, is_select, prpsqlstt_answered, opens, opnqry_answered, fetched, fetches, cntqry_answered}
 use Rattle.group_store.specs.Query.{closes, clsqry_answered}
 use Rattle.group_store.specs.UnitEnd.{asks_release, asks_sets, has_no_cursor, ends_with, ended, rdbcmm_answered, rdbrllbck_answered}
 use Rattle.group_store.specs.Store.{StoreState, answered}
 use Rattle.group_store.specs.GroupLaws.WrittenCodes.{is_no_other}
-use Rattle.group_store.specs.GroupLaws.Cases.{AllCases, answered_by}
+use Rattle.group_store.specs.GroupLaws.Cases.{answered_by}
 
 -- ---- what is said
 

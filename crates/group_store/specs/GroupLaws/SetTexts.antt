@@ -1,9 +1,9 @@
 -- SET statements that are told of registers are read as the same, and a session knows by them which register they set.
-use Rattle.std.proofs.Common.{◌≡◌, ℕ, zero, suc, ◌+◌, ◌<◌, ◌≤◌, ◌/◌, ◌%◌, ◌==◌, ◌&&◌, Bool, true, false, not, cond, List, [], ◌∷◌, ◌++◌, length, map}
+use Rattle.std.proofs.Common.{◌≡◌, ℕ, zero, suc, ◌+◌, ◌<◌, ◌≤◌, ◌/◌, ◌%◌, ◌==◌, ◌&&◌, Bool, true, false, not, List, [], ◌∷◌, ◌++◌, length, map}
 use Rattle.std.proofs.Common.{take, drop}
-use Rattle.std.proofs.Common.{Option, Some, None, refl, sym, ap, ◌∙◌, subst, arith, true≢false, eqb-true, nat_lt, nat_le, inl, inr}
-use Rattle.std.specs.Prelude.{codes, bytes_eq, is_some, option_and_then, unwrap_or}
-use Rattle.std.specs.List.{AllByRecursion, list_all, before_first, prefix_len}
+use Rattle.std.proofs.Common.{Option, Some, None, refl, sym, ap, ◌∙◌, arith, true≢false, eqb-true, nat_lt, nat_le, inl, inr}
+use Rattle.std.specs.Prelude.{codes, bytes_eq, is_some, option_and_then}
+use Rattle.std.specs.List.{list_all, before_first, prefix_len}
 use Rattle.std.proofs.lemmas.Bool.{and_parts, cases_eq, cond_both, cond-true, cond-false, le-ltb, leb-true, eq-eqb}
 use Rattle.std.proofs.lemmas.List.{append_assoc, length-append, length-map, take_at, drop_at}
 use Rattle.std.proofs.lemmas.Slice.Eq.{bytes_eq-Decides}
@@ -14,10 +14,10 @@ use Rattle.ddm_codepoints.specs.declared.typdef.TypDef.TheVariants.{Sql370, SqlA
 use Rattle.ddm_codepoints.specs.Character.{ebcdic_of, ascii_of}
 use Rattle.ddm_codepoints.proofs.WholeTables.{leads_both_ways}
 use Rattle.reply_texts.specs.Text.{is_character, code_in, is_character_in, ascii_in, is_text, codes_in, text_in}
-use Rattle.unit_segments.specs.Statement.{Text, Statement as SqlText, sized_text, text_of as sized, text_at, with_first, statement_of as sql_text_of}
-use Rattle.unit_segments.specs.Registers.{equals_sign, or_all, set_of, key_of}
+use Rattle.unit_segments.specs.Statement.{Statement as SqlText, sized_text, text_of as sized, with_first, statement_of as sql_text_of}
+use Rattle.unit_segments.specs.Registers.{equals_sign, or_all, key_of}
 use Rattle.member_statements.specs.declared.statement.Statement.{Statement}
-use Rattle.member_statements.specs.declared.statement.Statement.TheVariants.{Insert, Update, Delete, Set, Select}
+use Rattle.member_statements.specs.declared.statement.Statement.TheVariants.{Set}
 use Rattle.member_statements.specs.declared.register.Register.{Register}
 use Rattle.member_statements.specs.declared.register.Register.TheVariants.{Schema, Degree, Path, Numbered}
 use Rattle.member_statements.specs.Register.{IsRegister, decimal, digit, register_name, set_text}
@@ -25,7 +25,7 @@ use Rattle.member_statements.specs.Statement.{is_inner, is_inner_text, most_text
 use Rattle.member_statements.specs.Reading.{statement_of}
 use Rattle.member_statements.proofs.Spelled.{spelled_is_read}
 use Rattle.group_store.specs.Unit.{register_rank}
-use Rattle.group_store.specs.Statement.{text_of, statement_in}
+use Rattle.group_store.specs.Statement.{statement_in}
 use Rattle.group_store.specs.Values.{IsSet, set_data}
 use Rattle.group_store.specs.GroupLaws.Registers.{Entry, rank, same_register}
 

@@ -1,8 +1,7 @@
 -- SET statements lead to a unit, and to replies, that the data don't matter to.
-use Rattle.std.proofs.Common.{◌≡◌, ℕ, ◌==◌, Bool, true, false, not, if◌then◌else◌, cond, List, [], ◌∷◌, refl, sym, ap, ◌∙◌, is_none}
+use Rattle.std.proofs.Common.{◌≡◌, ◌==◌, not, if◌then◌else◌, List, [], ◌∷◌, refl, sym, ap, ◌∙◌, is_none}
 use Rattle.std.specs.List.{AllByRecursion}
 use Rattle.std.proofs.lemmas.Bool.{cond-true, cond-false}
-use Rattle.dss_frame.specs.declared.dss.Dss.{Dss}
 use Rattle.ddm_codepoints.specs.CodePoint.{excsat, accsec, secchk, accrdb, rdbcmm, rdbrllbck, excsqlimm, excsqlset}
 use Rattle.reply_texts.specs.Reply.{cmdnsp_object, prccnv_object}
 use Rattle.access_handshake.specs.Stage.{next_stage}

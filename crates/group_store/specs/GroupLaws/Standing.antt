@@ -1,11 +1,10 @@
 -- Where the units of the small group stand for a session.
-use Rattle.std.proofs.Common.{◌≡◌, ◌⊎◌, inl, inr, ℕ, ◌==◌, Bool, true, false, not, if◌then◌else◌, cond, List, [], ◌∷◌, map, length, refl, sym, ap}
+use Rattle.std.proofs.Common.{◌≡◌, ℕ, ◌==◌, true, false, List, [], ◌∷◌, map, length, refl, sym, ap}
 use Rattle.std.proofs.Common.{◌∙◌, subst, arith, true≢false, eqb-true}
-use Rattle.std.proofs.Common.{Option, Some, None, is_none}
+use Rattle.std.proofs.Common.{None, is_none}
 use Rattle.std.specs.Prelude.{unwrap_or}
 use Rattle.std.specs.List.{AllByRecursion}
-use Rattle.std.proofs.lemmas.Bool.{cond-true, cond-false}
-use Rattle.dss_frame.specs.declared.dss.Dss.{Dss}
+use Rattle.std.proofs.lemmas.Bool.{cond-true}
 use Rattle.ddm_codepoints.specs.declared.typdef.TypDef.{TypDef}
 use Rattle.ddm_codepoints.specs.declared.typdef.TypDef.TheVariants.{SqlAsc}
 use Rattle.ddm_codepoints.specs.declared.code_class.CodeClass.{CodeClass}
@@ -28,12 +27,11 @@ use Rattle.plain_model.specs.Group.{IsCommand}
 use Rattle.group_store.specs.Access.{user_in, typdef_in}
 use Rattle.group_store.specs.Unit.{Registers, Cursors, UnitState, nothing_at, checked_as, accessed_as}
 use Rattle.group_store.specs.Answered.{Answered}
-use Rattle.group_store.specs.Execute.{excsqlset_answered}
 use Rattle.group_store.specs.UnitEnd.{has_no_cursor}
-use Rattle.group_store.specs.Store.{StoreState, answered, unit_after, replies, with_log, base_at, base}
-use Rattle.group_store.specs.Values.{IsSet, AreSet, set_data, logged, IsAmong, HasRegister, IsAccessed, StandsAt, Stands, IsUnit}
+use Rattle.group_store.specs.Store.{StoreState, unit_after, replies, with_log, base_at, base}
+use Rattle.group_store.specs.Values.{IsSet, AreSet, set_data, logged, IsAmong, IsAccessed, StandsAt, Stands, IsUnit}
 use Rattle.group_store.specs.GroupLaws.Registers.{Entry, of_each, to_each, with_values, all_set, has_told, set_again, told_all, told_among, told_alone}
-use Rattle.group_store.specs.GroupLaws.Ends.{it_ends, it_releases, it_tells, ended_replies}
+use Rattle.group_store.specs.GroupLaws.Ends.{it_ends, it_releases, it_tells}
 use Rattle.group_store.specs.GroupLaws.Logs.{log_after, set_again_is}
 use Rattle.group_store.specs.GroupLaws.Units.{unit_kept_is, kept_excsqlset, stays_accessed}
 use Rattle.group_store.specs.GroupLaws.UnitEnds.{left, Both, both_of, is_now}

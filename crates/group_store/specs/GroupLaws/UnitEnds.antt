@@ -1,16 +1,15 @@
 -- What a command that ends a unit of work does, asking and not.
-use Rattle.std.proofs.Common.{◌≡◌, ◌⊎◌, inl, inr, ℕ, ◌==◌, ◌&&◌, Bool, true, false, not, if◌then◌else◌, cond, List, [], ◌∷◌, length, refl, sym, ap}
-use Rattle.std.proofs.Common.{◌∙◌, subst, arith, true≢false, eqb-true}
-use Rattle.std.proofs.Common.{Option, Some, None, is_some, is_none}
-use Rattle.std.proofs.lemmas.Bool.{cond_both, cond-true, cond-false, eq-eqb}
-use Rattle.dss_frame.specs.declared.dss.Dss.{Dss}
-use Rattle.ddm_objects.specs.Objects.{canonical_object, extent_at, object_at, first_object}
+use Rattle.std.proofs.Common.{◌≡◌, ◌⊎◌, inl, inr, ℕ, ◌==◌, ◌&&◌, Bool, true, false, not, if◌then◌else◌, List, [], refl, ap}
+use Rattle.std.proofs.Common.{◌∙◌}
+use Rattle.std.proofs.Common.{is_none}
+use Rattle.std.proofs.lemmas.Bool.{cond-true, cond-false}
+use Rattle.ddm_objects.specs.Objects.{canonical_object}
 use Rattle.ddm_codepoints.specs.CodeClass.{class_of}
 use Rattle.ddm_codepoints.specs.CodePoint.{excsat, accsec, secchk, accrdb, rdbcmm, rdbrllbck}
 use Rattle.ddm_codepoints.specs.Value.{committed, rolled_back}
 use Rattle.reply_texts.specs.Reply.{cmdnsp_object, prccnv_object}
 use Rattle.access_handshake.specs.declared.stage.Stage.{Stage}
-use Rattle.access_handshake.specs.declared.stage.Stage.TheVariants.{New, Attached, Chosen, Checked, Accessed}
+use Rattle.access_handshake.specs.declared.stage.Stage.TheVariants.{Attached, Accessed}
 use Rattle.access_handshake.specs.Stage.{next_stage}
 use Rattle.unit_segments.specs.declared.command.Command.{Command}
 use Rattle.unit_segments.specs.Command.{ends_unit, code_of, data_of}
@@ -23,7 +22,7 @@ use Rattle.member_replies.specs.Reply.{dsss_of}
 use Rattle.group_store.specs.Rows.{conflicts}
 use Rattle.group_store.specs.Unit.{UnitState, Cursors, nothing_at, after_commit, after_roll_back}
 use Rattle.group_store.specs.Answered.{Answered, refuses}
-use Rattle.group_store.specs.UnitEnd.{asks_release, asks_sets, has_no_cursor, ends_with, ended, rdbcmm_answered, rdbrllbck_answered}
+use Rattle.group_store.specs.UnitEnd.{asks_sets, has_no_cursor, ends_with, ended, rdbcmm_answered, rdbrllbck_answered}
 use Rattle.group_store.specs.Store.{StoreState, is_known, done, answered, unit_after, replies}
 use Rattle.group_store.specs.GroupLaws.Cases.{IsNow}
 use Rattle.group_store.specs.GroupLaws.Same.{made_code, made_number}

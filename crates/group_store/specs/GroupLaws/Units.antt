@@ -1,18 +1,17 @@
 -- What commands leave of a unit: its registers, and where its session stands.
-use Rattle.std.proofs.Common.{◌≡◌, ◌⊎◌, inl, inr, ℕ, ◌==◌, ◌&&◌, Bool, true, false, if◌then◌else◌, cond, List, [], ◌∷◌, length, filter, refl, sym, ap}
-use Rattle.std.proofs.Common.{◌∙◌, subst, arith, true≢false}
+use Rattle.std.proofs.Common.{◌≡◌, ℕ, ◌==◌, ◌&&◌, Bool, true, false, List, [], ◌∷◌, refl, sym, ap}
+use Rattle.std.proofs.Common.{◌∙◌, true≢false}
 use Rattle.std.proofs.Common.{Option, Some, None, is_some, is_none}
 use Rattle.std.specs.Prelude.{option_and_then}
 use Rattle.std.proofs.lemmas.Bool.{cond_both}
-use Rattle.std.specs.List.{AllByRecursion, list_any}
+use Rattle.std.specs.List.{list_any}
 use Rattle.ddm_codepoints.specs.declared.typdef.TypDef.{TypDef}
-use Rattle.ddm_codepoints.specs.declared.code_class.CodeClass.TheVariants.{Pass}
 use Rattle.ddm_codepoints.specs.CodeClass.{class_of}
 use Rattle.ddm_codepoints.specs.CodePoint as point
-use Rattle.ddm_codepoints.specs.Value.{info, error, admitted, committed, rolled_back}
+use Rattle.ddm_codepoints.specs.Value.{admitted, committed, rolled_back}
 use Rattle.reply_texts.specs.Reply.{cmdnsp_object}
 use Rattle.access_handshake.specs.declared.stage.Stage.{Stage}
-use Rattle.access_handshake.specs.declared.stage.Stage.TheVariants.{New, Attached, Chosen, Checked, Accessed}
+use Rattle.access_handshake.specs.declared.stage.Stage.TheVariants.{Accessed}
 use Rattle.access_handshake.specs.Stage.{next_stage}
 use Rattle.access_handshake.specs.Excsat.{excsat_answer}
 use Rattle.access_handshake.specs.Accsec.{has_secmec, accsec_answer}
@@ -21,29 +20,27 @@ use Rattle.unit_segments.specs.Command.{data_of}
 use Rattle.member_statements.specs.declared.statement.Statement.{Statement}
 use Rattle.member_statements.specs.declared.statement.Statement.TheVariants.{Insert, Update, Delete, Set, Select}
 use Rattle.member_statements.specs.declared.register.Register.{Register}
-use Rattle.member_statements.specs.Statement.{Spells}
 use Rattle.member_statements.specs.Reading.{statement_of}
 use Rattle.member_statements.proofs.Read.{read_is_spelled}
 use Rattle.member_replies.specs.declared.sql_outcome.SqlOutcome.{SqlOutcome}
 use Rattle.member_replies.specs.declared.sql_outcome.SqlOutcome.TheVariants as outcome
-use Rattle.plain_model.specs.Standing.{Standing, register_typdef}
+use Rattle.plain_model.specs.Standing.{Standing}
 use Rattle.group_store.specs.Rows.{Rows, Writes, conflicts}
-use Rattle.group_store.specs.Unit.{Registers, CursorState, UnitState, nothing_at, checked_as, accessed_as, after_commit, after_roll_back}
-use Rattle.group_store.specs.Answered.{Answered, says, refuses}
+use Rattle.group_store.specs.Unit.{Registers, CursorState, UnitState, after_commit, after_roll_back}
+use Rattle.group_store.specs.Answered.{Answered, refuses}
 use Rattle.group_store.specs.Access.{Users, to_excsat, are_read, excsat_answered, to_accsec, accsec_answered, secchkcd_of, secchk_answered, typdef_in}
 use Rattle.group_store.specs.Access.{by_typdef}
-use Rattle.group_store.specs.Access.{accrdb_answered, user_in}
 use Rattle.group_store.specs.Statement.{is_object_with, data_with, text_of, statement_in, first_data, first_statement, section_of}
-use Rattle.group_store.specs.Execute.{sees, inserted, replaced, statement_done, excsqlimm_answered, excsqlset_answered, with_sets, AfterSets, set_by}
+use Rattle.group_store.specs.Execute.{sees, statement_done, excsqlimm_answered, excsqlset_answered, set_by}
 use Rattle.group_store.specs.Execute.{after_sets, with_value}
-use Rattle.group_store.specs.Query.{in_section, is_select, prepared, prpsqlstt_answered, opens, opnqry_answered, fetched, fetches, cntqry_answered, closes}
+use Rattle.group_store.specs.Query.{in_section, is_select, prpsqlstt_answered, opens, opnqry_answered, fetched, fetches, cntqry_answered, closes}
 use Rattle.group_store.specs.Query.{clsqry_answered}
 use Rattle.group_store.specs.UnitEnd.{asks_release, asks_sets, has_no_cursor, ends_with, ended, rdbcmm_answered, rdbrllbck_answered}
-use Rattle.group_store.specs.Store.{StoreState, answered, unit_after}
-use Rattle.group_store.specs.Values.{IsSet, AreSet, IsAmong, HasRegister, IsAccessed, IsUnit}
-use Rattle.group_store.specs.GroupLaws.Cases.{IsNow, AllCases, answered_by}
+use Rattle.group_store.specs.Store.{StoreState, unit_after}
+use Rattle.group_store.specs.Values.{IsSet, AreSet, IsAccessed, IsUnit}
+use Rattle.group_store.specs.GroupLaws.Cases.{IsNow, answered_by}
 use Rattle.group_store.specs.GroupLaws.Replies.{excsat_by, accsec_by}
-use Rattle.group_store.specs.GroupLaws.Registers.{Entry, still_set, keeps_register}
+use Rattle.group_store.specs.GroupLaws.Registers.{still_set, keeps_register}
 
 -- ---- registers that statements set
 
