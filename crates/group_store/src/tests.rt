@@ -429,7 +429,15 @@ fn conflicts_roll_back(rt: HostRuntime) -> Result<(), Fail> {
     Ok(())
 }
 
-/// A cursor that is held is fetched behind a commit, to its end; a roll back drops one.
+/// PRPSQLSTT of all rows in section 5, for a cursor that commits hold.
+fn prepare_held(store: &mut Store, unit: &mut StoreUnit, alloc: Global) -> Result<Octets, Fail> {
+    let mut objects = Sequence::new(alloc);
+    objects.push(text_object(alloc, [0x24, 0x50], b"WITH HOLD")?)?;
+    objects.push(text_object(alloc, [0x24, 0x14], b"SELECT K, V FROM T")?)?;
+    exec(store, unit, alloc, PRPSQLSTT, &section(PRPSQLSTT), objects)
+}
+
+/// A cursor that is held is fetched behind a commit, to its end; a roll back drops another.
 #[test]
 fn cursors_are_fetched(rt: HostRuntime) -> Result<(), Fail> {
     let alloc = rt.alloc();
@@ -442,17 +450,7 @@ fn cursors_are_fetched(rt: HostRuntime) -> Result<(), Fail> {
         EXCSQLIMM,
         b"INSERT INTO T VALUES (7, 'b')",
     )?;
-    let mut objects = Sequence::new(alloc);
-    objects.push(text_object(alloc, [0x24, 0x50], b"WITH HOLD")?)?;
-    objects.push(text_object(alloc, [0x24, 0x14], b"SELECT K, V FROM T")?)?;
-    exec(
-        &mut store,
-        &mut unit,
-        alloc,
-        PRPSQLSTT,
-        &section(PRPSQLSTT),
-        objects,
-    )?;
+    prepare_held(&mut store, &mut unit, alloc)?;
     let not_prepared = card(&[0xFF, 0xFF, 0xFD, 0xFE, 0xF2, 0xF6, 0xF5, 0xF0, 0xF1]);
     let open_already = card(&[0xFF, 0xFF, 0xFE, 0x0A, 0xF2, 0xF4, 0xF5, 0xF0, 0xF2]);
     let end = card(&NOT_FOUND);
@@ -529,12 +527,33 @@ fn cursors_are_fetched(rt: HostRuntime) -> Result<(), Fail> {
             not_open.as_slice(),
             [].as_slice(),
         ),
-        (RDBRLLBCK, roll_back, held(2).as_slice(), DONE.as_slice()),
     ] {
         let replies = ask(&mut store, &mut unit, alloc, code, body)?;
         assert!(rt;
             are_two(&replies, wanted, behind),
             "what a cursor is answered"
+        );
+    }
+    prepare_held(&mut store, &mut unit, alloc)?;
+    for (code, body, wanted, behind) in [
+        (
+            OPNQRY,
+            section(OPNQRY).as_slice(),
+            opened.as_slice(),
+            [].as_slice(),
+        ),
+        (RDBRLLBCK, roll_back, held(2).as_slice(), DONE.as_slice()),
+        (
+            CNTQRY,
+            section(CNTQRY).as_slice(),
+            not_open.as_slice(),
+            [].as_slice(),
+        ),
+    ] {
+        let replies = ask(&mut store, &mut unit, alloc, code, body)?;
+        assert!(rt;
+            are_two(&replies, wanted, behind),
+            "a roll back drops what is held"
         );
     }
     Ok(())
