@@ -1,0 +1,4 @@
+pub mod Session
+pub mod Steps
+pub mod Inputs
+pub mod Memory

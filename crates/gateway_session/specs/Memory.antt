@@ -1,0 +1,75 @@
+-- What a session comes to that finds no memory: DDM, volume 3, RSCLMTRM. That it says this, ends, and loses its transport is this
+-- project's own.
+use Rattle.std.specs.Prelude.{ℕ, Bool, List, [], ◌∷◌, ◌++◌, drop, if◌then◌else◌, Option, Some, None}
+use Rattle.access_handshake.specs.declared.stage.Mark.{Mark}
+use Rattle.reply_texts.specs.Closing.{memory_reply}
+use Rattle.plain_model.specs.Core.{first_number}
+use Rattle.gateway_session.specs.declared.need.End.TheVariants.{NoMemory}
+use Rattle.gateway_session.specs.declared.need.Need.{Need}
+use Rattle.gateway_session.specs.declared.loss.LossWhy.{LossWhy}
+use Rattle.gateway_session.specs.declared.loss.LossWhy.TheVariants.{Left}
+use Rattle.gateway_session.specs.declared.loss.ErrorWord.{ErrorWord}
+use Rattle.gateway_session.specs.Session.{Session, Held, Tries, no_tries, no_mark, need_ended, need, mark_by_held, sending_by_held, number_of}
+
+-- what is left of a session that found no memory
+pub record Closing : Type 0 where
+  -- the rest of the reply that was finished before, and then RSCLMTRM
+  pub to_say : List ℕ
+  -- the loss that wasn't asked for yet
+  pub loss : Option (ℕ × LossWhy)
+  pub gone : Bool
+
+pub data State : Type 0 where
+  Runs : (session : Session) → State
+  Closes : (closing : Closing) → State
+
+abbrev pub loss_at_end : Option Held → Option (ℕ × LossWhy) → Option (ℕ × LossWhy)
+loss_at_end None loss = loss
+loss_at_end (Some held) loss = Some (held.number, Left)
+
+-- In a step before which the session was this one memory ran out, and of a finished reply these bytes were left to be said.
+-- RSCLMTRM has the number of the first command of the segment that was in work, or 0.
+abbrev pub closing_with : List ℕ → Session → Closing
+closing_with rest s = record {
+  to_say = rest ++ memory_reply (first_number s.core);
+  loss = loss_at_end s.held s.unasked.loss;
+  gone = s.gone;
+}
+
+-- ---- what is seen of either
+
+abbrev pub need_in : State → Need
+need_in (Runs s) = need s
+need_in (Closes closing) = need_ended NoMemory closing.to_say closing.gone
+
+abbrev pub to_say_in : State → List ℕ
+to_say_in (Runs s) = s.to_say
+to_say_in (Closes closing) = closing.to_say
+
+abbrev pub loss_in : State → Option (ℕ × LossWhy)
+loss_in (Runs s) = s.unasked.loss
+loss_in (Closes closing) = closing.loss
+
+abbrev pub list_in : State → Option (List ℕ)
+list_in (Runs s) = s.unasked.list
+list_in (Closes closing) = None
+
+abbrev pub word_in : State → Option ErrorWord
+word_in (Runs s) = s.unasked.word
+word_in (Closes closing) = None
+
+abbrev pub tries_in : State → Tries
+tries_in (Runs s) = s.tries
+tries_in (Closes closing) = no_tries
+
+abbrev pub held_in : State → Option ℕ
+held_in (Runs s) = number_of s.held
+held_in (Closes closing) = None
+
+abbrev pub to_send_in : State → List ℕ
+to_send_in (Runs s) = sending_by_held s.held
+to_send_in (Closes closing) = []
+
+abbrev pub mark_in : State → Mark
+mark_in (Runs s) = mark_by_held s.held
+mark_in (Closes closing) = no_mark

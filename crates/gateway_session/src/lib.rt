@@ -1,0 +1,10 @@
+//! One application's session at the gateway: what it reads of the application and of a server, what it sends to each, and what it
+//! needs next. It has no link: each step is told what moved.
+#![tactic(auto)]
+
+mod loss;
+mod need;
+
+pub use loss::{ErrorWord, Lent, LossWhy};
+pub use need::{End, Need};
+pub use session_core::LimitKind;

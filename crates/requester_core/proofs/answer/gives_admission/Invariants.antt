@@ -1,0 +1,10 @@
+use Rattle.std.proofs.Common.{◌≡◌, length}
+use Rattle.unit_segments.specs.Strip.{replies_to}
+use Rattle.unit_segments.specs.Accepts.{gives_admission}
+use Rattle.requester_core.proofs.answer.gives_admission.Given as goal
+
+abbrev pub invariant-loop-reply : goal.invariant-loop-reply
+invariant-loop-reply l = gives_admission (replies_to l.number l.left) ≡ gives_admission (replies_to l.number l.fn.replies)
+
+abbrev pub decreases-loop-reply : goal.decreases-loop-reply
+decreases-loop-reply l = length l.left

@@ -1,0 +1,4 @@
+pub mod Incoming
+pub mod SeenReading
+pub mod Seen
+pub mod SeenAnswer
