@@ -1,20 +1,24 @@
 -- What a session comes to that finds no memory: DDM, volume 3, RSCLMTRM. That it says this, ends, and loses its transport is this
 -- project's own.
-use Rattle.std.specs.Prelude.{ℕ, Bool, List, [], ◌∷◌, ◌++◌, drop, if◌then◌else◌, Option, Some, None}
+use Rattle.std.specs.Prelude.{ℕ, Bool, true, List, [], ◌∷◌, ◌++◌, drop, Option, Some, None}
 use Rattle.access_handshake.specs.declared.stage.Mark.{Mark}
 use Rattle.reply_texts.specs.Closing.{memory_reply}
 use Rattle.plain_model.specs.Core.{first_number}
+use Rattle.gateway_session.specs.Steps.{after_said, after_app_end}
 use Rattle.gateway_session.specs.declared.need.End.TheVariants.{NoMemory}
 use Rattle.gateway_session.specs.declared.need.Need.{Need}
 use Rattle.gateway_session.specs.declared.loss.LossWhy.{LossWhy}
 use Rattle.gateway_session.specs.declared.loss.LossWhy.TheVariants.{Left}
 use Rattle.gateway_session.specs.declared.loss.ErrorWord.{ErrorWord}
-use Rattle.gateway_session.specs.Session.{Session, Held, Tries, no_tries, no_mark, need_ended, need, mark_by_held, sending_by_held, number_of}
+use Rattle.gateway_session.specs.declared.held.Held.{Held}
+use Rattle.gateway_session.specs.declared.held.Tries.{Tries}
+use Rattle.gateway_session.specs.Session.{Session, uncounted, no_tries, no_mark, need_ended, need, mark_by_held, sending_by_held, number_of}
 
 -- what is left of a session that found no memory
 pub record Closing : Type 0 where
-  -- the rest of the reply that was finished before, and then RSCLMTRM
-  pub to_say : List ℕ
+  -- the rest of the reply that was finished before, and the rest of RSCLMTRM behind it
+  pub rest : List ℕ
+  pub reply : List ℕ
   -- the loss that wasn't asked for yet
   pub loss : Option (ℕ × LossWhy)
   pub gone : Bool
@@ -31,20 +35,52 @@ loss_at_end (Some held) loss = Some (held.number, Left)
 -- RSCLMTRM has the number of the first command of the segment that was in work, or 0.
 abbrev pub closing_with : List ℕ → Session → Closing
 closing_with rest s = record {
-  to_say = rest ++ memory_reply (first_number s.core);
+  rest = rest;
+  reply = memory_reply (first_number s.core);
   loss = loss_at_end s.held s.unasked.loss;
   gone = s.gone;
 }
+
+-- ---- steps
+
+-- a step of a session that runs
+abbrev pub step : (Session → Session) → State → State
+step f (Runs s) = Runs (uncounted (f s))
+step f (Closes closing) = Closes closing
+
+-- memory ran out in a step
+abbrev pub out_of_memory : (Session → List ℕ) → State → State
+out_of_memory rest (Runs s) = Closes (closing_with (rest s) s)
+out_of_memory rest (Closes closing) = Closes closing
+
+-- so many bytes were said
+abbrev pub said_by : ℕ → List ℕ → Closing → Closing
+said_by count [] closing = record closing { reply = drop count closing.reply }
+said_by count (byte ∷ bytes) closing = record closing { rest = drop count (byte ∷ bytes) }
+
+abbrev pub said_in : ℕ → State → State
+said_in count (Runs s) = Runs (uncounted (after_said count s))
+said_in count (Closes closing) = Closes (said_by count closing.rest closing)
+
+-- the application ended, or failed
+abbrev pub app_end_in : Bool → State → State
+app_end_in failed (Runs s) = Runs (uncounted (after_app_end failed s))
+app_end_in failed (Closes closing) = Closes (record closing { gone = true })
 
 -- ---- what is seen of either
 
 abbrev pub need_in : State → Need
 need_in (Runs s) = need s
-need_in (Closes closing) = need_ended NoMemory closing.to_say closing.gone
+need_in (Closes closing) = need_ended NoMemory (closing.rest ++ closing.reply) closing.gone
+
+-- what can be said at once
+abbrev pub front_of : List ℕ → List ℕ → List ℕ
+front_of [] reply = reply
+front_of (byte ∷ bytes) reply = byte ∷ bytes
 
 abbrev pub to_say_in : State → List ℕ
 to_say_in (Runs s) = s.to_say
-to_say_in (Closes closing) = closing.to_say
+to_say_in (Closes closing) = front_of closing.rest closing.reply
 
 abbrev pub loss_in : State → Option (ℕ × LossWhy)
 loss_in (Runs s) = s.unasked.loss

@@ -1,6 +1,6 @@
 -- One application's session as the gateway has it: DRDA, volume 1, application requester and server; units of work. Transports,
 -- what is tried of members, and what a session needs are this project's own.
-use Rattle.std.specs.Prelude.{ℕ, Bool, false, true, ◌||◌, if◌then◌else◌, List, [], ◌∷◌, Option, Some, None}
+use Rattle.std.specs.Prelude.{ℕ, Bool, false, if◌then◌else◌, List, [], ◌∷◌, Option, Some, None}
 use Rattle.access_handshake.specs.declared.stage.Stage.TheVariants.{New}
 use Rattle.access_handshake.specs.declared.stage.Mark.{Mark}
 use Rattle.unit_segments.specs.declared.command.Command.{Command}
@@ -9,38 +9,19 @@ use Rattle.plain_model.specs.Core as core
 use Rattle.session_core.specs.declared.end.LimitKind.{LimitKind as Kind}
 use Rattle.session_core.specs.declared.end.LimitKind.TheVariants as kind
 use Rattle.requester_core.specs.Talk.{Talking, to_send, mark_of}
+use Rattle.session_core.specs.Seen.{unnumbered}
 use Rattle.gateway_session.specs.declared.need.End.{End}
 use Rattle.gateway_session.specs.declared.need.End.TheVariants as is_end
 use Rattle.gateway_session.specs.declared.need.Need.{Need}
 use Rattle.gateway_session.specs.declared.need.Need.TheVariants.{App, Lend, Dial, Send, Back, Give, Say, Done}
-use Rattle.gateway_session.specs.declared.loss.LossWhy.{LossWhy}
-use Rattle.gateway_session.specs.declared.loss.ErrorWord.{ErrorWord}
+use Rattle.gateway_session.specs.declared.held.Held.{Held}
+use Rattle.gateway_session.specs.declared.held.Tries.{Tries}
+use Rattle.gateway_session.specs.declared.held.Unasked.{Unasked}
 use Rattle.session_core.specs.Incoming.{Incoming, nothing_came}
 
--- a transport that is lent to the session
-pub record Held : Type 0 where
-  pub number : ℕ
-  pub member : ℕ
-  -- the conversation on it, once it is dialled
-  pub talk : Option Talking
-  -- the last segment that its server answered released it, or was a refused SECCHK
-  pub released : Bool
-
--- what was tried for the segment in work
-pub record Tries : Type 0 where
-  -- the members that were
-  pub tried : ℕ
-  -- the next transport is to be dialled
-  pub fresh : Bool
-
+-- nothing was tried
 abbrev pub no_tries : Tries
 no_tries = record { tried = 0; fresh = false }
-
--- what wasn't asked for yet: the last list of members, the last loss with the number of its transport, the last error
-pub record Unasked : Type 0 where
-  pub list : Option (List ℕ)
-  pub loss : Option (ℕ × LossWhy)
-  pub word : Option ErrorWord
 
 pub record Session : Type 0 where
   -- the name of the gateway's database
@@ -154,3 +135,9 @@ sending_by_held (Some held) = sending_by_talk held.talk
 abbrev pub number_of : Option Held → Option ℕ
 number_of None = None
 number_of (Some held) = Some held.number
+
+-- ---- what isn't counted
+
+-- The number of the unit in work is counted here alone: nothing that a session does depends on it.
+abbrev pub uncounted : Session → Session
+uncounted s = record s { core = unnumbered s.core }

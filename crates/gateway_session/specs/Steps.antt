@@ -1,13 +1,13 @@
 -- What each input makes of a session, by the events of the plain model: DRDA, volume 1, units of work. When a session ends that
 -- holds a transport, and what is tried of members after a loss, are this project's own.
-use Rattle.std.specs.Prelude.{ℕ, Bool, true, false, ◌==◌, if◌then◌else◌, List, [], ◌∷◌, ◌++◌, drop, length, nat_lt, Option, Some, None, is_some}
+use Rattle.std.specs.Prelude.{ℕ, Bool, true, false, ◌==◌, if◌then◌else◌, List, [], ◌∷◌, ◌++◌, drop, length, nat_lt, slice_get, Option, Some, None}
 use Rattle.access_handshake.specs.declared.stage.Stage.{Stage}
 use Rattle.access_handshake.specs.declared.stage.Stage.TheVariants.{New, Attached, Chosen, Checked, Accessed}
 use Rattle.unit_segments.specs.declared.command.Command.{Command}
 use Rattle.unit_segments.specs.declared.stripped.Stripped.{Stripped}
 use Rattle.unit_segments.specs.Spelling.{join}
 use Rattle.unit_segments.specs.Limit.{most_reply_bytes}
-use Rattle.plain_model.specs.Core.{Core, After, Owed, Nothing, Rerouted, Unknown, LimitKind, Reply, Numbers, first}
+use Rattle.plain_model.specs.Core.{Core, After, Owed, Nothing, Rerouted, Unknown, LimitKind, Reply, Numbers}
 use Rattle.plain_model.specs.Core as core
 use Rattle.plain_model.specs.Begun.{Reading, Chain, Fault, TooLong, begun}
 use Rattle.plain_model.specs.Answered.{answered}
@@ -24,13 +24,9 @@ use Rattle.gateway_session.specs.declared.loss.LossWhy.TheVariants as why
 use Rattle.gateway_session.specs.declared.loss.ErrorWord.{ErrorWord}
 use Rattle.gateway_session.specs.declared.loss.ErrorWord.TheVariants as word
 use Rattle.session_core.specs.Incoming.{with_piece, next_of, without_next}
-use Rattle.gateway_session.specs.Session.{Session, Held, Tries, no_tries}
-
--- ---- a plain event
-
--- its core, and the bytes of the replies that it finished
-abbrev pub with_after : After → Session → Session
-with_after after s = record s { core = after.core; to_say = s.to_say ++ after.said }
+use Rattle.gateway_session.specs.declared.held.Held.{Held}
+use Rattle.gateway_session.specs.declared.held.Tries.{Tries}
+use Rattle.gateway_session.specs.Session.{Session, no_tries}
 
 -- the session makes this error
 abbrev pub with_word : Option ErrorWord → Session → Session
@@ -77,7 +73,7 @@ after_lost reason s = lost_by_held reason s.held s
 
 -- what a server is sent of the segment in work: nothing while an error is owed
 abbrev pub to_run : Owed → List (List Command) → Option (List Command)
-to_run Nothing segments = Some (first segments)
+to_run Nothing segments = slice_get segments 0
 to_run Rerouted segments = None
 to_run Unknown segments = None
 
@@ -104,6 +100,15 @@ going_by (Some end) s = after_lost why.Left s
 abbrev pub going_on : Session → Session
 going_on s = going_by s.core.end s
 
+-- ---- a plain event
+
+-- its core, and the bytes of the replies that it finished
+abbrev pub says : List ℕ → Session → Session
+says bytes s = record s { to_say = s.to_say ++ bytes }
+
+abbrev pub with_after : After → Session → Session
+with_after after s = says after.said (going_on (record s { core = after.core }))
+
 -- ---- the next chain
 
 -- the error that a fault makes
@@ -113,7 +118,7 @@ error_of (Fault place error number) = Some word.Syntax
 error_of (TooLong number) = Some word.Limit
 
 abbrev pub begun_with : Reading → Session → Session
-begun_with reading s = going_on (with_word (error_of reading) (with_after (begun s.name reading s.core) s))
+begun_with reading s = with_word (error_of reading) (with_after (begun s.name reading s.core) s)
 
 abbrev pub begun_by : Option Reading → Session → Session
 begun_by None s = s
@@ -171,11 +176,11 @@ none_left_word Checked owed = word.NoAccess
 none_left_word Accessed owed = last_word owed
 
 abbrev pub with_none_left : Session → Session
-with_none_left s = going_on (with_word (Some (none_left_word s.core.standing.stage s.core.owed)) (with_after (none_left s.name s.core) s))
+with_none_left s = with_word (Some (none_left_word s.core.standing.stage s.core.owed)) (with_after (none_left s.name s.core) s)
 
 -- a limit was passed
 abbrev pub with_limit : LimitKind → Session → Session
-with_limit which s = going_on (with_word (Some word.Limit) (with_after (closed which s.core) s))
+with_limit which s = with_word (Some word.Limit) (with_after (closed which s.core) s)
 
 -- what it asked for of the pool
 unfoldable pub after_lend : Lent → Session → Session
@@ -236,7 +241,7 @@ accept_word Unknown = word.ReroutedUnknown
 
 -- access was given, and the owed error is told
 abbrev pub with_accepted : Session → Session
-with_accepted s = going_on (with_word (Some (accept_word s.core.owed)) (untried (with_after (accepted s.name s.core) s)))
+with_accepted s = with_word (Some (accept_word s.core.owed)) (with_after (accepted s.name s.core) (untried s))
 
 -- A register limit was passed.
 abbrev pub limit_word : Option core.End → Option ErrorWord
@@ -245,7 +250,7 @@ limit_word (Some end) = Some word.Limit
 
 abbrev pub with_answered : Stripped → Session → Session
 with_answered r s =
-    going_on (with_word (limit_word (answered s.name r s.core).core.end) (with_list r.list (untried (with_after (answered s.name r s.core) s))))
+    with_word (limit_word (answered s.name r s.core).core.end) (with_list r.list (with_after (answered s.name r s.core) (untried s)))
 
 -- the replies to the chain in work have too many bytes
 abbrev pub passes_limit : Stripped → Core → Bool

@@ -2,9 +2,16 @@
 //! needs next. It has no link: each step is told what moved.
 #![tactic(auto)]
 
+mod held;
 mod loss;
 mod need;
+mod running;
+mod session;
 
 pub use loss::{ErrorWord, Lent, LossWhy};
 pub use need::{End, Need};
+pub use session::Session;
 pub use session_core::LimitKind;
+
+#[cfg(test)]
+mod tests;

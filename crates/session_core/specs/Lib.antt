@@ -1,3 +1,4 @@
+pub mod Size
 pub mod Incoming
 pub mod SeenReading
 pub mod Seen

@@ -3,17 +3,18 @@
 #![tactic(auto)]
 
 mod access;
-mod core;
 mod end;
 mod incoming;
 mod local;
 mod replies;
+mod session;
+mod size;
 mod standing;
 mod work;
 
-pub use core::SessionCore;
-pub use incoming::{Incoming, Reading};
 pub use end::{CoreEnd, LimitKind};
+pub use incoming::{Incoming, Reading};
+pub use session::SessionCore;
 pub use standing::Standing;
 
 #[cfg(test)]

@@ -1,4 +1,5 @@
 ghost use Rattle.std.specs.Prelude.{◌≡◌, [], IfOk, OnOk};
+ghost use Rattle.unit_segments.specs.Registers.{with_sets};
 ghost use Rattle.plain_model.specs.Standing.{new, attached, chosen, checked, accessed, register_typdef, log_with, after_end};
 
 use access_handshake::{Access, Stage, find_parameter};
@@ -116,18 +117,30 @@ impl Standing {
         ensures fault { IfOk result (λ fault. fault ≡ (log_with self.old sets.now).fault) }
         ensures standing { OnOk result (self.new ≡ after_end self.old sets.now) }
     {
-        let typdef = register_typdef(&self.access);
-        let mut left = sets.as_slice();
-        while let Some((sqlstt, rest)) = left.split_first() {
-            match self.log.add(sqlstt.as_slice(), typdef) {
-                Ok(()) => {}
-                Err(RegisterFault::NoMemory) => return Err(NoMemory),
-                Err(fault) => return Ok(Some(fault)),
-            }
-            left = rest;
-        }
-        Ok(None)
+        add_sets(register_typdef(&self.access), sets, &mut self.log)
     }
+}
+
+/// Adds SET statements to a log, in order, up to the first that it can't take: what is wrong with that.
+#[tactic(auto, unfolding(unit_segments::specs::Registers::with_sets))]
+fn add_sets(
+    typdef: TypDef,
+    sets: &OctetsList,
+    log: &mut RegisterLog,
+) -> Result<Option<RegisterFault>, NoMemory>
+    ensures fault { IfOk result (λ fault. fault ≡ (with_sets typdef sets.now log.old).fault) }
+    ensures log { OnOk result (log.new ≡ (with_sets typdef sets.now log.old).log) }
+{
+    let mut left = sets.as_slice();
+    while let Some((sqlstt, rest)) = left.split_first() {
+        match log.add(sqlstt.as_slice(), typdef) {
+            Ok(()) => {}
+            Err(RegisterFault::NoMemory) => return Err(NoMemory),
+            Err(fault) => return Ok(Some(fault)),
+        }
+        left = rest;
+    }
+    Ok(None)
 }
 
 /// The type definition in which register statements are written: that of ACCRDB, or else one of the ASCII family.

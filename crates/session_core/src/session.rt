@@ -1,8 +1,9 @@
-ghost use Rattle.std.specs.Prelude.{◌≡◌, ◌≤◌, ◌++◌, [], Some, length, slice_get, option_copied, option_map, IsTrue, IfOk, OnOk};
+ghost use Rattle.std.specs.Prelude.{◌≡◌, ◌≤◌, ◌++◌, true, [], Some, length, nat_lt, slice_get, option_copied, option_map, IsTrue, IfOk, OnOk};
 ghost use Rattle.std.specs.List.{AllByRecursion};
 ghost use Rattle.reply_texts.specs.Sqlcard.{has_text};
 ghost use Rattle.reply_texts.specs.RdbName.{characters_of};
-ghost use Rattle.unit_segments.specs.Limit.{most_commands};
+ghost use Rattle.unit_segments.specs.Limit.{most_commands, most_reply_bytes};
+ghost use Rattle.unit_segments.specs.Spelling.{join};
 ghost use Rattle.plain_model.specs.Group.{IsCommand};
 ghost use Rattle.plain_model.specs.Core.{new_core, first, others, first_number, still, settled, finished, ends_with};
 ghost use Rattle.plain_model.specs.Local.{is_local};
@@ -16,6 +17,7 @@ use crate::access::{gives_admission, has_accrdbrm, sets_only, told_typdef, witho
 use crate::end::{CoreEnd, LimitKind};
 use crate::local::{answer_locally, is_local};
 use crate::replies::{ended_card, message, rerouted_card, rolled_back, sqlcard};
+use crate::size::room_behind;
 use crate::standing::Standing;
 use crate::work::{append, grown_again, has_commit, is_work, limit_of};
 use access_handshake::Stage;
@@ -31,6 +33,9 @@ use std::marker::Model;
 use unit_segments::{
     Chain, Command, CommandList, RegisterFault, Segment, SegmentList, Stripped, cut, join_replies,
 };
+
+/// How many bytes the replies to a chain have at most.
+const MOST_REPLY_BYTES: usize = 33_554_432;
 
 /// A session without its conversation and without bytes. It is seen as the core of the plain model, where the number of the unit in
 /// work isn't counted.
@@ -129,6 +134,17 @@ impl SessionCore {
         ensures { result.now ≡ self.now.kept }
     {
         &self.kept
+    }
+
+    /// Whether the replies to the chain in work have too many bytes with these behind those that are kept: more than 33,554,432 in one
+    /// chain.
+    pub fn passes_limit(&self, replies: &DssList) -> bool
+        ensures { result ≡ nat_lt most_reply_bytes (length (join (self.now.kept ++ replies.now))) }
+    {
+        match room_behind(MOST_REPLY_BYTES, self.kept.as_slice()) {
+            Some(room) => room_behind(room, replies.as_slice()).is_none(),
+            None => true,
+        }
     }
 
     /// The error that is still to be told of a unit of work that was lost.
@@ -314,14 +330,15 @@ impl SessionCore {
     fn leave_segment(&mut self, stripped: Stripped) -> Result<(), NoMemory>
         ensures { OnOk result (self.new ≡ segment_left stripped self.old) }
     {
-        self.typdef = told_typdef(self.alloc, self.typdef, stripped.replies.as_slice())?;
+        let Stripped { replies, stop, .. } = stripped;
+        self.typdef = told_typdef(self.alloc, self.typdef, replies.as_slice())?;
         if self.kept.is_empty() {
-            self.kept = stripped.replies;
+            self.kept = replies;
         } else {
-            append(stripped.replies.as_slice(), &mut self.kept)?;
+            append(replies.as_slice(), &mut self.kept)?;
         }
         self.sent = false;
-        if stripped.stop {
+        if stop {
             self.stop();
         } else {
             self.next();

@@ -1,0 +1,544 @@
+use crate::held::{Held, Tries, Unasked};
+use crate::loss::{ErrorWord, Lent, LossWhy};
+use crate::need::{End, Need};
+use access_handshake::{Mark, Stage};
+use link_ends::{NoMemory, Octets};
+use reply_texts::RdbName;
+use requester_core::{Got, Owed, Talk};
+use server_list::Tried;
+use session_core::{CoreEnd, Incoming, LimitKind, Reading, SessionCore};
+use std::alloc::Global;
+use std::mem;
+use unit_segments::Stripped;
+
+/// A session that finds its memory.
+#[derive(Drop)]
+pub(crate) struct Running {
+    alloc: Global,
+    rdb: RdbName,
+    core: SessionCore,
+    incoming: Incoming,
+    held: Option<Held>,
+    tries: Tries,
+    unasked: Unasked,
+    /// The reply that is said, and how many of its bytes were.
+    saying: Octets,
+    said: usize,
+    gone: bool,
+}
+
+impl Running {
+    /// Nothing came, and nothing was said.
+    pub(crate) fn new(alloc: Global, rdb: &RdbName) -> Running {
+        Running {
+            alloc,
+            rdb: *rdb,
+            core: SessionCore::new(alloc),
+            incoming: Incoming::new(alloc),
+            held: None,
+            tries: Tries {
+                tried: Tried::none(),
+                fresh: false,
+            },
+            unasked: Unasked {
+                list: None,
+                loss: None,
+                word: None,
+            },
+            saying: Octets::new(alloc),
+            said: 0,
+            gone: false,
+        }
+    }
+
+    // ---- what it is
+
+    /// What it needs next.
+    pub(crate) fn need(&self) -> Need {
+        match self.core.end() {
+            Some(end) => self.need_ended(end_of(self.tries.tried, end)),
+            None => self.need_going(),
+        }
+    }
+
+    /// The same, once it has ended.
+    fn need_ended(&self, end: End) -> Need {
+        if self.gone || self.to_say().is_empty() {
+            return Need::Done(end);
+        }
+        Need::Say
+    }
+
+    /// The same, while it goes on.
+    fn need_going(&self) -> Need {
+        if self.is_released() {
+            return Need::Give;
+        }
+        if !self.to_say().is_empty() {
+            return Need::Say;
+        }
+        if self.core.segment().is_none() {
+            return Need::App;
+        }
+        match &self.held {
+            Some(held) => need_by_talk(&held.talk),
+            None => Need::Lend,
+        }
+    }
+
+    /// Whether the transport that is held is to be given back.
+    fn is_released(&self) -> bool {
+        match &self.held {
+            Some(held) => held.released,
+            None => false,
+        }
+    }
+
+    /// The bytes that are still to be said.
+    pub(crate) fn to_say(&self) -> &[u8] {
+        self.saying.as_slice().get(self.said..).unwrap_or(&[])
+    }
+
+    /// The bytes that the server is to be sent now.
+    pub(crate) fn to_send(&self) -> &[u8] {
+        match &self.held {
+            Some(held) => match &held.talk {
+                Some(talk) => talk.to_send(),
+                None => &[],
+            },
+            None => &[],
+        }
+    }
+
+    /// Where the conversation that is held stands.
+    pub(crate) fn mark(&self) -> Mark {
+        match &self.held {
+            Some(held) => match &held.talk {
+                Some(talk) => talk.mark(),
+                None => NO_MARK,
+            },
+            None => NO_MARK,
+        }
+    }
+
+    /// The number of the transport that is held.
+    pub(crate) fn number(&self) -> Option<u64> {
+        match &self.held {
+            Some(held) => Some(held.number),
+            None => None,
+        }
+    }
+
+    /// Whether the application ended, or failed.
+    pub(crate) fn is_gone(&self) -> bool {
+        self.gone
+    }
+
+    pub(crate) fn tries(&self) -> Tries {
+        self.tries
+    }
+
+    /// The correlation number of the first command of the segment in work, or 0.
+    pub(crate) fn first_number(&self) -> u16 {
+        self.core.first_number()
+    }
+
+    /// The loss that is told where memory runs out: that of the transport that is held, or else one that wasn't asked for.
+    pub(crate) fn loss_at_end(&self) -> Option<(u64, LossWhy)> {
+        match &self.held {
+            Some(held) => Some((held.number, LossWhy::Left)),
+            None => self.unasked.loss,
+        }
+    }
+
+    // ---- what wasn't asked for
+
+    pub(crate) fn take_list(&mut self) -> Option<Octets> {
+        mem::replace(&mut self.unasked.list, None)
+    }
+
+    pub(crate) fn take_loss(&mut self) -> Option<(u64, LossWhy)> {
+        mem::replace(&mut self.unasked.loss, None)
+    }
+
+    pub(crate) fn take_word(&mut self) -> Option<ErrorWord> {
+        mem::replace(&mut self.unasked.word, None)
+    }
+
+    // ---- a loss
+
+    /// The transport that is held, if one is, is lost.
+    pub(crate) fn lose(&mut self, why: LossWhy) {
+        let Some(held) = mem::replace(&mut self.held, None) else {
+            return;
+        };
+        if self.core.segment().is_some() {
+            self.tries = tried_once(is_tried_at_once(why), held.member, self.tries);
+        }
+        self.core.lose();
+        self.unasked.loss = Some((held.number, why));
+    }
+
+    // ---- going on
+
+    /// A session that has ended loses the transport that it holds; else the segment in work goes out on it.
+    fn go_on(&mut self) -> Result<(), NoMemory> {
+        if self.core.end().is_some() {
+            self.lose(LossWhy::Left);
+            return Ok(());
+        }
+        if self.core.segment().is_none() {
+            return Ok(());
+        }
+        let Some(held) = &mut self.held else {
+            return Ok(());
+        };
+        if held.released {
+            return Ok(());
+        }
+        match &mut held.talk {
+            Some(talk) => set_out(&self.core, talk),
+            None => Ok(()),
+        }
+    }
+
+    /// What was finished is to be said, when the session has gone on.
+    fn say(&mut self, said: Octets) -> Result<(), NoMemory> {
+        self.go_on()?;
+        self.saying = said;
+        self.said = 0;
+        Ok(())
+    }
+
+    // ---- bytes of the application
+
+    /// A piece came of the application.
+    pub(crate) fn app(&mut self, piece: &[u8]) -> Result<(), NoMemory> {
+        self.incoming.feed(piece)?;
+        self.begin_next()
+    }
+
+    /// The next chain comes into work, or a fault in its place, where that is whole.
+    fn begin_next(&mut self) -> Result<(), NoMemory> {
+        match self.incoming.next()? {
+            Some(reading) => self.begin(reading),
+            None => Ok(()),
+        }
+    }
+
+    /// What the application's bytes go on with comes into work.
+    fn begin(&mut self, reading: Reading) -> Result<(), NoMemory> {
+        match reading {
+            Reading::Chain(chain) => {
+                let said = self.core.begin_chain(&self.rdb, &chain)?;
+                self.say(said)
+            }
+            Reading::Fault {
+                place,
+                error,
+                number,
+            } => {
+                let said = self.core.begin_fault(&self.rdb, place, error, number)?;
+                self.say(said)?;
+                self.unasked.word = Some(ErrorWord::Syntax);
+                Ok(())
+            }
+            Reading::TooLong { number } => {
+                let said = self.core.begin_too_long(&self.rdb, number)?;
+                self.say(said)?;
+                self.unasked.word = Some(ErrorWord::Limit);
+                Ok(())
+            }
+        }
+    }
+
+    /// So many bytes were said; when all are, the next chain is looked for.
+    pub(crate) fn said(&mut self, n: usize) -> Result<(), NoMemory> {
+        self.count_said(n);
+        if !self.to_say().is_empty() || self.core.segment().is_some() || self.core.end().is_some() {
+            return Ok(());
+        }
+        self.begin_next()
+    }
+
+    /// So many bytes were said.
+    pub(crate) fn count_said(&mut self, n: usize) {
+        self.said = self.said.saturating_add(n);
+    }
+
+    /// The application ended, or failed.
+    pub(crate) fn app_end(&mut self, failed: bool) {
+        self.lose(LossWhy::Left);
+        self.core.leave(failed);
+        self.gone = true;
+    }
+
+    // ---- a transport
+
+    /// What it asked for of the pool.
+    pub(crate) fn lend(&mut self, lent: Lent) -> Result<(), NoMemory> {
+        match lent {
+            Lent::Idle { number, member } => {
+                let mut talk = Talk::idle(self.alloc, &self.rdb);
+                set_out(&self.core, &mut talk)?;
+                self.hold(number, member, Some(talk));
+                Ok(())
+            }
+            Lent::Dial { number, member } => {
+                self.hold(number, member, None);
+                Ok(())
+            }
+            Lent::Queue => Ok(()),
+            Lent::NoneLeft => self.none_left(),
+            Lent::Worn => self.limit(LimitKind::Numbers),
+        }
+    }
+
+    /// It holds this transport.
+    fn hold(&mut self, number: u64, member: u32, talk: Option<Talk>) {
+        self.held = Some(Held {
+            number,
+            member,
+            talk,
+            released: false,
+        });
+    }
+
+    /// No listed member is left.
+    fn none_left(&mut self) -> Result<(), NoMemory> {
+        let word = none_left_word(self.core.standing().stage(), self.core.owed());
+        let said = self.core.end_without_member(&self.rdb)?;
+        self.say(said)?;
+        self.unasked.word = Some(word);
+        Ok(())
+    }
+
+    /// A limit was passed.
+    fn limit(&mut self, kind: LimitKind) -> Result<(), NoMemory> {
+        let said = self.core.close(kind)?;
+        self.say(said)?;
+        self.unasked.word = Some(ErrorWord::Limit);
+        Ok(())
+    }
+
+    /// Its transport was dialled, or couldn't be.
+    pub(crate) fn dialled(&mut self, ok: bool) -> Result<(), NoMemory> {
+        if !ok {
+            self.lose(LossWhy::Dial);
+            return Ok(());
+        }
+        let mut talk = Talk::dialled(self.alloc, &self.rdb);
+        set_out(&self.core, &mut talk)?;
+        if let Some(held) = &mut self.held {
+            held.talk = Some(talk);
+        }
+        Ok(())
+    }
+
+    /// Its transport was given back.
+    pub(crate) fn given(&mut self) {
+        self.held = None;
+    }
+
+    // ---- bytes to the server
+
+    /// So many bytes were sent.
+    pub(crate) fn sent(&mut self, n: usize) -> Result<(), NoMemory> {
+        if n == 0 {
+            self.lose(LossWhy::Stuck);
+            return Ok(());
+        }
+        let Some(held) = &mut self.held else {
+            return Ok(());
+        };
+        let Some(talk) = &mut held.talk else {
+            return Ok(());
+        };
+        talk.on_sent(n)?;
+        if talk.in_segment() {
+            self.core.send();
+        }
+        Ok(())
+    }
+
+    // ---- bytes of the server
+
+    /// A piece came of the server.
+    pub(crate) fn back(&mut self, piece: &[u8]) -> Result<(), NoMemory> {
+        if piece.is_empty() {
+            self.lose(LossWhy::Ended);
+            return Ok(());
+        }
+        let Some(got) = self.got(piece)? else {
+            return Ok(());
+        };
+        match got {
+            Got::More => Ok(()),
+            Got::Refused => {
+                self.lose(LossWhy::Refused);
+                Ok(())
+            }
+            Got::Broken { at } => {
+                self.lose(LossWhy::Frame { at });
+                Ok(())
+            }
+            Got::TooLong => self.limit(LimitKind::Reply),
+            Got::Ready => self.accept(),
+            Got::Whole(stripped) => self.whole(stripped),
+        }
+    }
+
+    /// What a piece comes to, on the conversation that is held.
+    fn got(&mut self, piece: &[u8]) -> Result<Option<Got>, NoMemory> {
+        let Some(held) = &mut self.held else {
+            return Ok(None);
+        };
+        match &mut held.talk {
+            Some(talk) => Ok(Some(talk.on_back(piece)?)),
+            None => Ok(None),
+        }
+    }
+
+    /// Access was given, and the owed error is told.
+    fn accept(&mut self) -> Result<(), NoMemory> {
+        let word = accept_word(self.core.owed());
+        self.forget_tries();
+        let said = self.core.accept(&self.rdb)?;
+        self.say(said)?;
+        self.unasked.word = Some(word);
+        Ok(())
+    }
+
+    /// The reply to the segment in work is whole.
+    fn whole(&mut self, stripped: Stripped) -> Result<(), NoMemory> {
+        self.note_release();
+        if self.core.passes_limit(&stripped.replies) {
+            return self.limit(LimitKind::Reply);
+        }
+        self.answered(stripped)
+    }
+
+    /// The transport is to be given back where the conversation stands at its server's attributes alone.
+    fn note_release(&mut self) {
+        let stage = self.mark().stage;
+        if let Some(held) = &mut self.held {
+            held.released = matches!(stage, Stage::Attached);
+        }
+    }
+
+    /// The segment in work was answered.
+    fn answered(&mut self, stripped: Stripped) -> Result<(), NoMemory> {
+        let mut stripped = stripped;
+        let list = mem::replace(&mut stripped.list, None);
+        self.forget_tries();
+        let said = self.core.answer(&self.rdb, stripped)?;
+        self.say(said)?;
+        if list.is_some() {
+            self.unasked.list = list;
+        }
+        if self.core.end().is_some() {
+            self.unasked.word = Some(ErrorWord::Limit);
+        }
+        Ok(())
+    }
+
+    /// Memory ran out: no transport is held, and of what wasn't asked for only this loss is left.
+    pub(crate) fn stop(&mut self, loss: Option<(u64, LossWhy)>) {
+        self.held = None;
+        self.unasked = Unasked {
+            list: None,
+            loss,
+            word: None,
+        };
+    }
+
+    /// Nothing was tried of the segment that comes into work next.
+    fn forget_tries(&mut self) {
+        self.tries = Tries {
+            tried: Tried::none(),
+            fresh: false,
+        };
+    }
+}
+
+/// Where no conversation is held.
+pub(crate) const NO_MARK: Mark = Mark {
+    stage: Stage::New,
+    unread: 0,
+};
+
+/// A conversation is to lead to where the session stands, and to run the segment in work: nothing while an error is owed.
+fn set_out(core: &SessionCore, talk: &mut Talk) -> Result<(), NoMemory> {
+    let standing = core.standing();
+    let access = standing.access();
+    let segment = if core.owed().is_none() {
+        core.segment()
+    } else {
+        None
+    };
+    talk.begin(
+        standing.stage(),
+        Some(access),
+        access.secmec,
+        standing.registers(),
+        core.again(),
+        segment,
+    )
+}
+
+/// What a session needs that holds a transport.
+fn need_by_talk(talk: &Option<Talk>) -> Need {
+    match talk {
+        Some(talk) if talk.to_send().is_empty() => Need::Back,
+        Some(_) => Need::Send,
+        None => Need::Dial,
+    }
+}
+
+/// How a session ended that had tried these members.
+fn end_of(tried: Tried, end: CoreEnd) -> End {
+    match end {
+        CoreEnd::AppEnded => End::AppEnded,
+        CoreEnd::AppFault => End::AppFault,
+        CoreEnd::Refused { place } => End::Refused { place },
+        CoreEnd::NoMember => End::NoMember { tried },
+        CoreEnd::Limit { kind } => End::Limit { kind },
+    }
+}
+
+/// Whether a member is tried at once whose transport is lost so.
+fn is_tried_at_once(why: LossWhy) -> bool {
+    matches!(why, LossWhy::Dial | LossWhy::Refused)
+}
+
+/// What was tried when a transport of this member is lost. Of the losses for other causes the first adds no member: it only asks for
+/// a fresh dial.
+fn tried_once(at_once: bool, member: u32, tries: Tries) -> Tries {
+    if at_once || tries.fresh {
+        return Tries {
+            tried: tries.tried.with(member),
+            fresh: tries.fresh,
+        };
+    }
+    Tries {
+        tried: tries.tried,
+        fresh: true,
+    }
+}
+
+/// What is told where no member is left.
+fn none_left_word(stage: Stage, owed: Option<Owed>) -> ErrorWord {
+    match (stage, owed) {
+        (Stage::Accessed, Some(Owed::Unknown)) => ErrorWord::EndedUnknown,
+        (Stage::Accessed, _) => ErrorWord::Ended,
+        _ => ErrorWord::NoAccess,
+    }
+}
+
+/// What is told where the session goes on with another server.
+fn accept_word(owed: Option<Owed>) -> ErrorWord {
+    match owed {
+        Some(Owed::Unknown) => ErrorWord::ReroutedUnknown,
+        Some(Owed::Rerouted) | None => ErrorWord::Rerouted,
+    }
+}

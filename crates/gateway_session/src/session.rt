@@ -1,0 +1,224 @@
+use crate::loss::{ErrorWord, Lent, LossWhy};
+use crate::need::{End, Need};
+use crate::running::{NO_MARK, Running};
+use access_handshake::Mark;
+use link_ends::{NoMemory, Octets};
+use reply_texts::{RdbName, memory_dss};
+use server_list::Tried;
+use std::alloc::Global;
+
+/// What is left of a session that found no memory.
+#[derive(Drop)]
+struct Closing {
+    /// RSCLMTRM (DDM, volume 3), and how many of its bytes were said.
+    reply: [u8; 16],
+    said: usize,
+}
+
+/// One application's session.
+#[derive(Drop)]
+pub struct Session {
+    id: u32,
+    running: Running,
+    closing: Option<Closing>,
+}
+
+impl Session {
+    /// Nothing came, and nothing was said. The session has this number.
+    pub fn new(alloc: Global, id: u32, rdb: &RdbName) -> Result<Session, NoMemory> {
+        Ok(Session {
+            id,
+            running: Running::new(alloc, rdb),
+            closing: None,
+        })
+    }
+
+    /// Its number.
+    pub fn id(&self) -> u32 {
+        self.id
+    }
+
+    // ---- what it is
+
+    /// What it needs next.
+    pub fn need(&self) -> Need {
+        match &self.closing {
+            None => self.running.need(),
+            Some(_) if self.running.is_gone() || self.to_say().is_empty() => {
+                Need::Done(End::NoMemory)
+            }
+            Some(_) => Need::Say,
+        }
+    }
+
+    /// The number of the transport that is held.
+    pub fn held(&self) -> Option<u64> {
+        match &self.closing {
+            None => self.running.number(),
+            Some(_) => None,
+        }
+    }
+
+    /// The members that were tried for the segment in work.
+    pub fn tried(&self) -> Tried {
+        match &self.closing {
+            None => self.running.tries().tried,
+            Some(_) => Tried::none(),
+        }
+    }
+
+    /// Whether the next transport is to be dialled.
+    pub fn fresh(&self) -> bool {
+        match &self.closing {
+            None => self.running.tries().fresh,
+            Some(_) => false,
+        }
+    }
+
+    /// The bytes that its server is to be sent now.
+    pub fn to_send(&self) -> &[u8] {
+        match &self.closing {
+            None => self.running.to_send(),
+            Some(_) => &[],
+        }
+    }
+
+    /// Bytes that are to be said to its application: all of them, but that RSCLMTRM for want of memory comes by itself, behind the rest
+    /// of the reply that was finished before.
+    pub fn to_say(&self) -> &[u8] {
+        match &self.closing {
+            Some(closing) if self.running.to_say().is_empty() => closing.left(),
+            _ => self.running.to_say(),
+        }
+    }
+
+    /// Where the conversation that is held stands; nothing was said where there is none.
+    pub fn mark(&self) -> Mark {
+        match &self.closing {
+            None => self.running.mark(),
+            Some(_) => NO_MARK,
+        }
+    }
+
+    // ---- what wasn't asked for
+
+    /// The last list of members that a server told, if that wasn't asked for: the data of SRVLST (DRDA, volume 3).
+    pub fn learned(&mut self) -> Option<Octets> {
+        self.running.take_list()
+    }
+
+    /// The last loss, if that wasn't asked for: the number of the transport, and why it was lost.
+    pub fn lost(&mut self) -> Option<(u64, LossWhy)> {
+        self.running.take_loss()
+    }
+
+    /// The last error that the session made, if that wasn't asked for.
+    pub fn told(&mut self) -> Option<ErrorWord> {
+        self.running.take_word()
+    }
+
+    // ---- steps
+
+    /// A piece came of the application. It needs it.
+    pub fn on_app(&mut self, piece: &[u8]) -> Result<(), NoMemory> {
+        let last = self.last();
+        let stepped = self.running.app(piece);
+        self.close_after(stepped, last)
+    }
+
+    /// The pool answered. It needs a transport; a member that is named is 1 to 32.
+    pub fn on_lend(&mut self, lent: Lent) -> Result<(), NoMemory> {
+        let last = self.last();
+        let stepped = self.running.lend(lent);
+        self.close_after(stepped, last)
+    }
+
+    /// Its transport was dialled, or couldn't be. It needs that.
+    pub fn on_dialled(&mut self, ok: bool) -> Result<(), NoMemory> {
+        let last = self.last();
+        let stepped = self.running.dialled(ok);
+        self.close_after(stepped, last)
+    }
+
+    /// So many bytes were sent to its server; a link that takes none takes nothing more. It needs that.
+    pub fn on_sent(&mut self, n: usize) -> Result<(), NoMemory> {
+        let last = self.last();
+        let stepped = self.running.sent(n);
+        self.close_after(stepped, last)
+    }
+
+    /// A piece came of its server; a link that gives none gives nothing more. It needs that.
+    pub fn on_back(&mut self, piece: &[u8]) -> Result<(), NoMemory> {
+        let last = self.last();
+        let stepped = self.running.back(piece);
+        self.close_after(stepped, last)
+    }
+
+    /// Its transport was given back. It needs that.
+    pub fn on_given(&mut self) -> Result<(), NoMemory> {
+        self.running.given();
+        Ok(())
+    }
+
+    /// So many bytes were said to its application. It needs that.
+    pub fn on_said(&mut self, n: usize) -> Result<(), NoMemory> {
+        if let Some(closing) = &mut self.closing {
+            if self.running.to_say().is_empty() {
+                closing.said = closing.said.saturating_add(n);
+            } else {
+                self.running.count_said(n);
+            }
+            return Ok(());
+        }
+        let last = self.last();
+        let stepped = self.running.said(n);
+        self.close_after(stepped, last)
+    }
+
+    /// The transport that is held was lost.
+    pub fn on_lost(&mut self, why: LossWhy) -> Result<(), NoMemory> {
+        self.running.lose(why);
+        Ok(())
+    }
+
+    /// The application ended, or failed: the session needs nothing more. An end that it already had stays.
+    pub fn on_app_end(&mut self, fault: bool) {
+        self.running.app_end(fault);
+    }
+
+    // ---- want of memory
+
+    /// What RSCLMTRM and the loss are, where memory runs out in the next step.
+    fn last(&self) -> Last {
+        Last {
+            number: self.running.first_number(),
+            loss: self.running.loss_at_end(),
+        }
+    }
+
+    /// After a step in which memory ran out the session says RSCLMTRM and ends, and a transport that it held is lost.
+    fn close_after(&mut self, stepped: Result<(), NoMemory>, last: Last) -> Result<(), NoMemory> {
+        if stepped.is_err() {
+            self.running.stop(last.loss);
+            self.closing = Some(Closing {
+                reply: memory_dss(last.number),
+                said: 0,
+            });
+        }
+        stepped
+    }
+}
+
+/// What is told where memory runs out: the correlation number of RSCLMTRM, and the last loss.
+#[derive(Clone, Copy)]
+struct Last {
+    number: u16,
+    loss: Option<(u64, LossWhy)>,
+}
+
+impl Closing {
+    /// The bytes of RSCLMTRM that weren't said.
+    fn left(&self) -> &[u8] {
+        self.reply.as_slice().get(self.said..).unwrap_or(&[])
+    }
+}

@@ -1,0 +1,17 @@
+use Rattle.std.proofs.Common.{◌≡◌, length}
+use Rattle.std.specs.List.{AllByRecursion}
+use Rattle.unit_segments.specs.Limit.{most_chain_bytes}
+use Rattle.plain_model.specs.Group.{IsCommand}
+use Rattle.session_core.specs.Incoming.{next_in}
+use Rattle.session_core.proofs.incoming.Incoming.next.Given as goal
+
+abbrev pub invariant-loop-placed : goal.invariant-loop-placed
+invariant-loop-placed l = record {
+  next : next_in l.self.chains l.self.frames.whole l.self.frames.fault ≡ next_in l.fn.self.chain l.fn.self.frames.whole l.fn.self.frames.fault;
+  frames : record l.self.frames { whole = l.fn.self.frames.whole } ≡ l.fn.self.frames;
+  commands : AllByRecursion IsCommand l.self.chains.commands;
+  limit : l.self.frames.limit ≡ most_chain_bytes;
+}
+
+abbrev pub decreases-loop-placed : goal.decreases-loop-placed
+decreases-loop-placed l = length l.self.frames.whole
