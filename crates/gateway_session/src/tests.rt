@@ -185,10 +185,17 @@ enum Turn {
     Lose(LossWhy),
 }
 
-/// A transport to the first member is to be dialled, with this number.
-const fn dial(number: u64) -> Turn {
-    Turn::Lend(Lent::Dial { number, member: 1 })
-}
+/// A transport to the first member is to be dialled.
+const DIAL: Turn = Turn::Lend(Lent::Dial {
+    number: 1,
+    member: 1,
+});
+
+/// Another one is.
+const DIAL_AGAIN: Turn = Turn::Lend(Lent::Dial {
+    number: 2,
+    member: 1,
+});
 
 fn name() -> Result<RdbName, Fail> {
     Ok(RdbName::of(b"SAMPLE").ok_or("a name")?)
@@ -202,7 +209,8 @@ struct Moved {
     given: usize,
 }
 
-/// Runs a session over the bytes of its application, in pieces of at most so many, until it needs more of these or is done.
+/// Runs a session over the bytes of its application, in pieces of at most so many, until it needs more of these or more turns, or
+/// is done.
 fn run(
     alloc: Global,
     session: &mut Session,
@@ -244,7 +252,10 @@ fn run(
                 session.on_given()?;
             }
             Need::Lend | Need::Dial | Need::Back => {
-                take_turn(session, turns.get(turn), most)?;
+                let Some(next) = turns.get(turn) else {
+                    return Ok(moved);
+                };
+                take_turn(session, *next, most)?;
                 turn += 1;
             }
         }
@@ -257,8 +268,8 @@ fn front(bytes: &[u8], most: usize) -> &[u8] {
     bytes.get(..most).unwrap_or(bytes)
 }
 
-fn take_turn(session: &mut Session, turn: Option<&Turn>, most: usize) -> Result<(), Fail> {
-    match *turn.ok_or("a turn")? {
+fn take_turn(session: &mut Session, turn: Turn, most: usize) -> Result<(), Fail> {
+    match turn {
         Turn::Lend(lent) => session.on_lend(lent)?,
         Turn::Dial(ok) => session.on_dialled(ok)?,
         Turn::Lose(why) => session.on_lost(why)?,
@@ -285,7 +296,7 @@ const PIECES: [usize; 2] = [65_536, 1];
 
 /// What leads to the database on a transport that is dialled.
 const OPENING: [Turn; 6] = [
-    dial(1),
+    DIAL,
     Turn::Dial(true),
     Turn::Reply(&ATTRIBUTES),
     Turn::Reply(&MECHANISM),
@@ -331,7 +342,7 @@ fn a_server_is_sent_each_chain_of_the_handshake_and_then_the_segments(rt: HostRu
 /// What leads back to the database on another transport that is dialled.
 const AGAIN: [Turn; 6] = [
     Turn::Lose(LossWhy::Cut),
-    dial(2),
+    DIAL_AGAIN,
     Turn::Dial(true),
     Turn::Reply(&ATTRIBUTES),
     Turn::Reply(&ACCESS),
@@ -353,7 +364,7 @@ fn a_segment_runs_again_where_nothing_else_was_answered(rt: HostRuntime) -> Resu
 /// An error is owed: access alone is given.
 const OWED: [Turn; 5] = [
     Turn::Lose(LossWhy::Cut),
-    dial(2),
+    DIAL_AGAIN,
     Turn::Dial(true),
     Turn::Reply(&ATTRIBUTES),
     Turn::Reply(&ACCESS),
@@ -385,7 +396,7 @@ fn of_a_commit_that_was_sent_nothing_is_known(rt: HostRuntime) -> Result<(), Fai
 /// SETs run again without a word before the segment.
 const SETS_AGAIN: [Turn; 7] = [
     Turn::Lose(LossWhy::Cut),
-    dial(2),
+    DIAL_AGAIN,
     Turn::Dial(true),
     Turn::Reply(&ATTRIBUTES),
     Turn::Reply(&ACCESS),
@@ -422,7 +433,7 @@ fn a_pinned_unit_is_rerouted(rt: HostRuntime) -> Result<(), Fail> {
 fn no_member_is_left(rt: HostRuntime) -> Result<(), Fail> {
     for most in PIECES {
         let mut session = Session::new(rt.alloc(), 1, &name()?)?;
-        let turns = [dial(1), Turn::Dial(false), Turn::Lend(Lent::NoneLeft)];
+        let turns = [DIAL, Turn::Dial(false), Turn::Lend(Lent::NoneLeft)];
         let done = run(rt.alloc(), &mut session, &START, &turns, most)?;
         let said = done.said.as_slice();
         assert!(rt; said.starts_with(&WELCOME[..79]) && said.ends_with(&NO_ACCESS) && said.len() == 95);
@@ -442,7 +453,7 @@ fn no_member_is_left(rt: HostRuntime) -> Result<(), Fail> {
 fn losses_count_within_one_segment(rt: HostRuntime) -> Result<(), Fail> {
     let mut session = accessed(rt.alloc(), 65_536)?;
     let turns = [Turn::Lose(LossWhy::Cut)];
-    let _ = run(rt.alloc(), &mut session, &INSERT, &turns, 65_536).is_err();
+    run(rt.alloc(), &mut session, &INSERT, &turns, 65_536)?;
     assert!(rt; session.fresh() && !session.tried().has(1));
     session.on_lend(Lent::Dial { number: 2, member: 1 })?;
     session.on_dialled(true)?;
@@ -456,7 +467,7 @@ fn a_refused_user_gives_the_transport_back(rt: HostRuntime) -> Result<(), Fail> 
     for most in PIECES {
         let mut session = Session::new(rt.alloc(), 1, &name()?)?;
         let turns = [
-            dial(1),
+            DIAL,
             Turn::Dial(true),
             Turn::Reply(&ATTRIBUTES),
             Turn::Reply(&MECHANISM),
