@@ -1,0 +1,4 @@
+pub mod Sizes
+pub mod Commands
+pub mod Params
+pub mod Cores

@@ -6,7 +6,8 @@ use Rattle.unit_segments.specs.declared.command.Command.{Command}
 use Rattle.unit_segments.specs.declared.stripped.Stripped.{Stripped}
 use Rattle.requester_core.specs.declared.lost.Owed.{Owed as OwedError}
 use Rattle.requester_core.specs.declared.lost.Owed.TheVariants as owed_error
-use Rattle.plain_model.specs.Core.{Core, Owed, Nothing, Rerouted, Unknown, LimitKind, End, first}
+use Rattle.unit_segments.specs.Spelling.{join}
+use Rattle.plain_model.specs.Core.{Core, After, Owed, Nothing, Rerouted, Unknown, LimitKind, End, first}
 use Rattle.plain_model.specs.Core as core
 use Rattle.plain_model.specs.Standing.{Standing, after_secchk, after_accrdb}
 use Rattle.plain_model.specs.Group.{told_typdef}
@@ -38,6 +39,10 @@ seen_end (core_end.Limit which) = core.Limit (seen_kind which)
 -- The number of the unit in work is counted by the plain model alone: nothing that a session does depends on it.
 abbrev pub unnumbered : Core → Core
 unnumbered k = record k { unit = 0 }
+
+-- the session ends, and the replies that are kept are its last
+abbrev pub ends_kept : End → Core → After
+ends_kept end k = record { core = record k { kept = []; end = Some end }; said = join k.kept; moved = false }
 
 -- ---- the parts of an answer
 

@@ -1,16 +1,16 @@
-ghost use Rattle.std.specs.Prelude.{◌≡◌, ◌≤◌, ◌++◌, true, [], Some, length, nat_lt, slice_get, option_copied, option_map, IsTrue, IfOk, OnOk};
+ghost use Rattle.std.specs.Prelude.{◌≡◌, ◌≤◌, ◌++◌, true, [], Some, drop, length, nat_lt, slice_get, option_copied, option_map, IsTrue, IfOk, OnOk};
 ghost use Rattle.std.specs.List.{AllByRecursion};
 ghost use Rattle.reply_texts.specs.Sqlcard.{has_text};
 ghost use Rattle.reply_texts.specs.RdbName.{characters_of};
 ghost use Rattle.unit_segments.specs.Limit.{most_commands, most_reply_bytes};
 ghost use Rattle.unit_segments.specs.Spelling.{join};
 ghost use Rattle.plain_model.specs.Group.{IsCommand};
-ghost use Rattle.plain_model.specs.Core.{new_core, first, others, first_number, still, settled, finished, ends_with};
+ghost use Rattle.plain_model.specs.Core.{new_core, first, others, first_number, still, settled, finished};
 ghost use Rattle.plain_model.specs.Local.{is_local};
 ghost use Rattle.plain_model.specs.Begun.{Chain as ChainRead, Fault, TooLong, begun};
 ghost use Rattle.plain_model.specs.Answered.{answered, answered_core, unit_after, standing_after, register_fault, past_limit};
 ghost use Rattle.plain_model.specs.Lost.{lost, owes, accepted, rolled_back_with, none_left, closed, left};
-ghost use Rattle.session_core.specs.Seen.{seen_owed, seen_kind, seen_end, unnumbered, standing_by_access, work_done, segment_left};
+ghost use Rattle.session_core.specs.Seen.{seen_owed, seen_kind, seen_end, unnumbered, ends_kept, standing_by_access, work_done, segment_left};
 ghost use Rattle.session_core.specs.SeenAnswer.{with_first};
 
 use crate::access::{gives_admission, has_accrdbrm, sets_only, told_typdef, without_error};
@@ -176,10 +176,7 @@ impl SessionCore {
         ensures first { result.now ≡ first self.now.segments }
         ensures commands { AllByRecursion IsCommand result.now }
     {
-        match self.segments.get(self.answered) {
-            Some(segment) => segment.commands().as_slice(),
-            None => &[],
-        }
+        first_of(&self.segments, self.answered)
     }
 
     // ---- a chain comes into work
@@ -402,10 +399,7 @@ impl SessionCore {
     fn answer_first(&mut self, rdb: &RdbName) -> Result<(), NoMemory>
         ensures { OnOk result (self.new ≡ with_first (characters_of rdb.now) self.old) }
     {
-        let Some(segment) = self.segments.get(self.answered) else {
-            return Ok(());
-        };
-        let commands = segment.commands().as_slice();
+        let commands = first_of(&self.segments, self.answered);
         if answer_locally(self.alloc, rdb, commands, &mut self.standing, &mut self.kept)? {
             self.stop();
         } else {
@@ -516,8 +510,8 @@ impl SessionCore {
 
     /// The replies that are kept are the last reply.
     fn end_with(&mut self, end: CoreEnd) -> Result<Octets, NoMemory>
-        ensures said { IfOk result (λ said. said ≡ (ends_with [] (seen_end end) self.old).said) }
-        ensures core { OnOk result (self.new ≡ (ends_with [] (seen_end end) self.old).core) }
+        ensures said { IfOk result (λ said. said ≡ (ends_kept (seen_end end) self.old).said) }
+        ensures core { OnOk result (self.new ≡ (ends_kept (seen_end end) self.old).core) }
     {
         let said = join_replies(self.alloc, &self.kept)?;
         self.kept = Sequence::new(self.alloc);
@@ -538,5 +532,17 @@ impl SessionCore {
         } else {
             CoreEnd::AppEnded
         });
+    }
+}
+
+/// The commands of the first segment behind those that are answered.
+fn first_of(segments: &SegmentList, answered: usize) -> &[Command]
+    requires { AllByRecursion (AllByRecursion IsCommand) (drop answered segments.now) }
+    ensures first { result.now ≡ first (drop answered segments.now) }
+    ensures commands { AllByRecursion IsCommand result.now }
+{
+    match segments.get(answered) {
+        Some(segment) => segment.commands().as_slice(),
+        None => &[],
     }
 }

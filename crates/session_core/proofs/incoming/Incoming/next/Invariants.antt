@@ -7,11 +7,11 @@ use Rattle.session_core.proofs.incoming.Incoming.next.Given as goal
 
 abbrev pub invariant-loop-placed : goal.invariant-loop-placed
 invariant-loop-placed l = record {
-  next : next_in l.self.chains l.self.frames.whole l.self.frames.fault ≡ next_in l.fn.self.chain l.fn.self.frames.whole l.fn.self.frames.fault;
-  frames : record l.self.frames { whole = l.fn.self.frames.whole } ≡ l.fn.self.frames;
-  commands : AllByRecursion IsCommand l.self.chains.commands;
-  limit : l.self.frames.limit ≡ most_chain_bytes;
+  next : next_in l.self-inside.chains l.self-inside.frames.whole l.self-inside.frames.fault ≡ next_in l.fn.self.chain l.fn.self.frames.whole l.fn.self.frames.fault;
+  frames : record l.self-inside.frames { whole = l.fn.self.frames.whole } ≡ l.fn.self.frames;
+  commands : AllByRecursion IsCommand l.self-inside.chains.commands;
+  limit : l.self-inside.frames.limit ≡ most_chain_bytes;
 }
 
 abbrev pub decreases-loop-placed : goal.decreases-loop-placed
-decreases-loop-placed l = length l.self.frames.whole
+decreases-loop-placed l = length l.self-inside.frames.whole

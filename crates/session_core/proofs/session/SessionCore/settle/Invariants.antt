@@ -3,11 +3,11 @@ use Rattle.reply_texts.specs.RdbName.{characters_of}
 use Rattle.plain_model.specs.Core.{Nothing, settle_segments}
 use Rattle.session_core.proofs.session.SessionCore.settle.Given as goal
 
-abbrev pub invariant-loop-rdb : goal.invariant-loop-rdb
-invariant-loop-rdb l = record {
+abbrev pub invariant-loop-self : goal.invariant-loop-self
+invariant-loop-self l = record {
   owed : l.self.owed ≡ Nothing;
   settled : (settle_segments (characters_of l.rdb) l.self.segments l.self).core ≡ (settle_segments (characters_of l.rdb) l.fn.self.segments l.fn.self).core;
 }
 
-abbrev pub decreases-loop-rdb : goal.decreases-loop-rdb
-decreases-loop-rdb l = length l.self.segments
+abbrev pub decreases-loop-self : goal.decreases-loop-self
+decreases-loop-self l = length l.self.segments

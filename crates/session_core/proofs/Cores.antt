@@ -1,0 +1,107 @@
+-- Segments one after another, what runs again where that is nothing, and what an answer makes of the core.
+use Rattle.std.proofs.Common.{◌≡◌, ℕ, zero, suc, ◌+◌, ◌==◌, Bool, true, false, if◌then◌else◌, List, [], ◌∷◌, ◌++◌, drop, Option, Some, None, refl, sym, ap, subst, ◌∙◌, slice_get, add-one}
+use Rattle.std.specs.List.{AllByRecursion}
+use Rattle.std.proofs.lemmas.Bool.{cond_both}
+use Rattle.dss_frame.specs.declared.dss.Dss.{Dss}
+use Rattle.ddm_codepoints.specs.CodePoint.{secchk, accrdb}
+use Rattle.unit_segments.specs.declared.command.Command.{Command}
+use Rattle.unit_segments.specs.declared.stripped.Stripped.{Stripped}
+use Rattle.unit_segments.specs.Segment.{goes_on_a_run}
+use Rattle.unit_segments.specs.Spelling.{chain_bytes}
+use Rattle.plain_model.specs.Standing.{Standing, after_secchk, after_accrdb, after_end}
+use Rattle.plain_model.specs.Group.{IsCommand}
+use Rattle.plain_model.specs.Core.{Core, first, others}
+use Rattle.plain_model.specs.Answered.{fit, is_work, joins_again, with_work, with_end, with_replies, standing_after, unit_after, answered_core}
+use Rattle.plain_model.proofs.Staged.{isnt_work}
+use Rattle.session_core.specs.Seen.{unnumbered, standing_by_access, segment_left}
+
+-- ---- lists
+
+pub next_drop : {A : Type 0} (n : ℕ) (gs : List A) → drop (suc n) gs ≡ drop 1 (drop n gs)
+next_drop zero gs = refl
+next_drop (suc n) [] = refl
+next_drop (suc n) (g ∷ gs) = next_drop n gs
+
+others_is : (gs : List (List Command)) → drop 1 gs ≡ others gs
+others_is [] = refl
+others_is (g ∷ gs) = refl
+
+pub others_drop : (n : ℕ) (gs : List (List Command)) → drop (n + 1) gs ≡ others (drop n gs)
+others_drop n gs = rw add-one (next_drop n gs ∙ others_is (drop n gs))
+
+all_others : (gs : List (List Command)) → AllByRecursion (AllByRecursion IsCommand) gs → AllByRecursion (AllByRecursion IsCommand) (others gs)
+all_others [] all = tt
+all_others (g ∷ gs) all = all.1
+
+pub all_next : (n : ℕ) (gs : List (List Command)) → AllByRecursion (AllByRecursion IsCommand) (drop n gs)
+    → AllByRecursion (AllByRecursion IsCommand) (drop (n + 1) gs)
+all_next n gs all = subst (AllByRecursion (AllByRecursion IsCommand)) (sym (others_drop n gs)) (all_others (drop n gs) all)
+
+pub none_each : (n : ℕ) (gs : List (List Command)) → gs ≡ [] → AllByRecursion (AllByRecursion IsCommand) (drop n gs)
+none_each zero gs e = subst (AllByRecursion (AllByRecursion IsCommand)) (sym e) tt
+none_each (suc n) gs e = subst (λ xs. AllByRecursion (AllByRecursion IsCommand) (drop (suc n) xs)) (sym e) tt
+
+pub first_at : (n : ℕ) (gs : List (List Command)) (g : List Command) → slice_get gs n ≡ Some g → g ≡ first (drop n gs)
+first_at zero [] g e = absurd cc
+first_at zero (h ∷ gs) g e = cc
+first_at (suc n) [] g e = absurd cc
+first_at (suc n) (h ∷ gs) g e = first_at n gs g e
+
+pub none_at : (n : ℕ) (gs : List (List Command)) → slice_get gs n ≡ None → first (drop n gs) ≡ []
+none_at zero [] e = refl
+none_at zero (h ∷ gs) e = absurd cc
+none_at (suc n) [] e = refl
+none_at (suc n) (h ∷ gs) e = none_at n gs e
+
+pub first_commands : (gs : List (List Command)) → AllByRecursion (AllByRecursion IsCommand) gs → AllByRecursion IsCommand (first gs)
+first_commands [] all = tt
+first_commands (g ∷ gs) all = all.0
+
+-- ---- what runs again
+
+pub none_fit : (again : List Command) → again ≡ [] → fit again ≡ true
+unfolding chain_bytes
+none_fit again e = ap fit e
+
+-- ---- an answer
+
+pub work_stands : (st : Standing) (g : List Command) (r : Stripped) → is_work g ≡ true
+    → standing_after st g r ≡ (if r.ended then after_end st r.sets else st)
+work_stands st [] r work = absurd cc
+work_stands st (c ∷ cs) r work =
+    go (c.code == secchk) (c.code == accrdb) (λ e. isnt_work c secchk e refl work) (λ e. isnt_work c accrdb e refl work)
+  where
+    go : (a b : Bool) → (a ≡ true → ⊥) → (b ≡ true → ⊥)
+        → (if a then after_secchk st c r.replies else (if b then after_accrdb st c r.replies else (if r.ended then after_end st r.sets else st)))
+        ≡ (if r.ended then after_end st r.sets else st)
+    go true b no_a no_b = absurd (no_a refl)
+    go false true no_a no_b = absurd (no_b refl)
+    go false false no_a no_b = refl
+
+pub access_stands : (st : Standing) (g : List Command) (r : Stripped) → r.ended ≡ false
+    → standing_after st g r ≡ standing_by_access st g r.replies
+access_stands st [] r none = refl
+access_stands st (c ∷ cs) r none =
+    ap (λ b. if c.code == secchk then after_secchk st c r.replies else (if c.code == accrdb then after_accrdb st c r.replies else (if b then after_end st r.sets else st))) none
+
+-- the unit of work doesn't depend on where the session stands
+pub stands_then_left : (r : Stripped) (k : Core)
+    → segment_left r (unnumbered (unit_after r (record k { standing = standing_after k.standing (first k.segments) r }))) ≡ unnumbered (answered_core r k)
+stands_then_left r k =
+    let to = standing_after k.standing (first k.segments) r in
+    let there = record k { standing = to } in
+    cond_both r.ended (with_end r there) (if is_work (first k.segments) then with_work r there else there)
+    (λ u. segment_left r (unnumbered u) ≡ unnumbered (answered_core r k))
+    (λ e. sym (ap (λ b. unnumbered (with_replies r (if b then with_end r k else (if is_work (first k.segments) then with_work r k else k)))) e))
+    (λ e. cond_both (is_work (first k.segments)) (with_work r there) there
+      (λ u. segment_left r (unnumbered u) ≡ unnumbered (answered_core r k))
+      (λ f. cond_both (joins_again r.replies k) (record there { again = k.again ++ first k.segments }) (record there { spoken = true })
+        (λ u. segment_left r (unnumbered u) ≡ unnumbered (answered_core r k))
+        (λ j. sym (ap (λ b. unnumbered (with_replies r (if b then with_end r k else (if is_work (first k.segments) then with_work r k else k)))) e
+          ∙ ap (λ b. unnumbered (with_replies r (if b then with_work r k else k))) f
+          ∙ ap (λ b. unnumbered (with_replies r (if b then record k { again = k.again ++ first k.segments } else record k { spoken = true }))) j))
+        (λ j. sym (ap (λ b. unnumbered (with_replies r (if b then with_end r k else (if is_work (first k.segments) then with_work r k else k)))) e
+          ∙ ap (λ b. unnumbered (with_replies r (if b then with_work r k else k))) f
+          ∙ ap (λ b. unnumbered (with_replies r (if b then record k { again = k.again ++ first k.segments } else record k { spoken = true }))) j)))
+      (λ f. sym (ap (λ b. unnumbered (with_replies r (if b then with_end r k else (if is_work (first k.segments) then with_work r k else k)))) e
+        ∙ ap (λ b. unnumbered (with_replies r (if b then with_work r k else k))) f)))
