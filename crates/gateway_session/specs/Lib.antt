@@ -1,4 +1,6 @@
 pub mod Session
+pub mod Members
 pub mod Steps
 pub mod Inputs
 pub mod Memory
+pub mod Closing

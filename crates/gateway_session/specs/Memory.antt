@@ -1,6 +1,6 @@
 -- What a session comes to that finds no memory: DDM, volume 3, RSCLMTRM. That it says this, ends, and loses its transport is this
 -- project's own.
-use Rattle.std.specs.Prelude.{ℕ, Bool, true, List, [], ◌∷◌, ◌++◌, drop, Option, Some, None}
+use Rattle.std.specs.Prelude.{◌≡◌, ℕ, Bool, true, List, [], ◌∷◌, ◌++◌, drop, Option, Some, None}
 use Rattle.access_handshake.specs.declared.stage.Mark.{Mark}
 use Rattle.reply_texts.specs.Closing.{memory_reply}
 use Rattle.plain_model.specs.Core.{first_number}
@@ -41,6 +41,15 @@ closing_with rest s = record {
   gone = s.gone;
 }
 
+-- a step in which memory ran out said nothing, and nothing of it is to be said
+pub record KeepsSaying (before after : Session) : Type 0 where
+  pub to_say : after.to_say ≡ before.to_say
+  pub gone : after.gone ≡ before.gone
+
+-- no transport is held, and of what wasn't asked for only this loss is left
+abbrev pub stopped : Option (ℕ × LossWhy) → Session → Session
+stopped loss s = record s { held = None; unasked = record { list = None; loss = loss; word = None } }
+
 -- ---- steps
 
 -- a step of a session that runs
@@ -66,6 +75,31 @@ said_in count (Closes closing) = Closes (said_by count closing.rest closing)
 abbrev pub app_end_in : Bool → State → State
 app_end_in failed (Runs s) = Runs (uncounted (after_app_end failed s))
 app_end_in failed (Closes closing) = Closes (record closing { gone = true })
+
+abbrev pub IsClosing : State → Type 0
+IsClosing (Runs s) = ⊥
+IsClosing (Closes closing) = Unit {0}
+
+-- what of a finished reply is left to be said: all, or all behind what was said in the step
+abbrev pub to_say_of : Session → List ℕ
+to_say_of s = s.to_say
+
+abbrev pub rest_after_said : ℕ → Session → List ℕ
+rest_after_said count s = drop count s.to_say
+
+-- ---- what was asked for
+
+abbrev pub without_list : State → State
+without_list (Runs s) = Runs (record s { unasked = record s.unasked { list = None } })
+without_list (Closes closing) = Closes closing
+
+abbrev pub without_loss : State → State
+without_loss (Runs s) = Runs (record s { unasked = record s.unasked { loss = None } })
+without_loss (Closes closing) = Closes (record closing { loss = None })
+
+abbrev pub without_word : State → State
+without_word (Runs s) = Runs (record s { unasked = record s.unasked { word = None } })
+without_word (Closes closing) = Closes closing
 
 -- ---- what is seen of either
 

@@ -264,33 +264,49 @@ is_attached Checked = false
 is_attached Accessed = false
 
 -- The server released the conversation, or refused its user, where only its attributes are known still.
-abbrev pub with_release : Option Held → Talking → Session → Session
-with_release None talking s = s
-with_release (Some held) talking s = record s { held = Some (record held { released = is_attached talking.stage }) }
+abbrev pub released_by : Option Talking → Bool
+released_by None = false
+released_by (Some talking) = is_attached talking.stage
+
+abbrev pub with_release : Option Held → Session → Session
+with_release None s = s
+with_release (Some held) s = record s { held = Some (record held { released = released_by held.talk }) }
 
 -- the segment in work was answered
 abbrev pub with_whole : Stripped → Session → Session
 with_whole r s = if passes_limit r s.core then with_limit Reply s else with_answered r s
 
--- what the piece comes to, where the conversation is this one behind it
-abbrev pub got_by : Got → Talking → Session → Session
-got_by got.More talking s = s
-got_by got.Refused talking s = after_lost why.Refused s
-got_by (got.Broken at) talking s = after_lost (why.Frame at) s
-got_by got.TooLong talking s = with_limit Reply s
-got_by got.Ready talking s = with_accepted s
-got_by (got.Whole r) talking s = with_whole r (with_release s.held talking s)
+-- what the piece comes to
+abbrev pub got_by : Got → Session → Session
+got_by got.More s = s
+got_by got.Refused s = after_lost why.Refused s
+got_by (got.Broken at) s = after_lost (why.Frame at) s
+got_by got.TooLong s = with_limit Reply s
+got_by got.Ready s = with_accepted s
+got_by (got.Whole r) s = with_whole r (with_release s.held s)
 
-abbrev pub back_by_talk : List ℕ → Option Talking → Held → Session → Session
-back_by_talk piece None held s = s
-back_by_talk piece (Some talking) held s =
-    got_by (back piece talking).got (back piece talking).talk (record s { held = Some (with_talk (back piece talking).talk held) })
+-- a piece on the conversation that is held
+abbrev pub got_by_talk : List ℕ → Option Talking → Option Got
+got_by_talk piece None = None
+got_by_talk piece (Some talking) = Some (back piece talking).got
 
-abbrev pub back_by_held : List ℕ → Option Held → Session → Session
-back_by_held piece None s = s
-back_by_held piece (Some held) s = back_by_talk piece held.talk held s
+abbrev pub got_on : List ℕ → Option Held → Option Got
+got_on piece None = None
+got_on piece (Some held) = got_by_talk piece held.talk
+
+abbrev pub talked_by : List ℕ → Option Talking → Option Talking
+talked_by piece None = None
+talked_by piece (Some talking) = Some (back piece talking).talk
+
+abbrev pub talked_on : List ℕ → Option Held → Option Held
+talked_on piece None = None
+talked_on piece (Some held) = Some (record held { talk = talked_by piece held.talk })
+
+abbrev pub back_by : Option Got → Session → Session
+back_by None s = s
+back_by (Some got) s = got_by got s
 
 -- a piece came of the server; a link that gives none gives nothing more
 unfoldable pub after_back : List ℕ → Session → Session
 after_back [] s = after_lost why.Ended s
-after_back (byte ∷ bytes) s = back_by_held (byte ∷ bytes) s.held s
+after_back (byte ∷ bytes) s = back_by (got_on (byte ∷ bytes) s.held) (record s { held = talked_on (byte ∷ bytes) s.held })

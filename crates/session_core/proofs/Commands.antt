@@ -9,7 +9,7 @@ use Rattle.unit_segments.specs.declared.command.Command.{Command}
 use Rattle.unit_segments.specs.declared.fault.ChainFault.{ChainFault}
 use Rattle.unit_segments.specs.Limit.{most_chain_bytes}
 use Rattle.unit_segments.specs.Command.{BodyFault, body_fault}
-use Rattle.unit_segments.specs.Chain.{OpenChain, no_chain, is_request, order_fault, count_fault, at_body, command_fault, dss_fault, command_of, with_object, with_dss, chain_after, chain_by, chain_step}
+use Rattle.unit_segments.specs.Chain.{OpenChain, no_chain, is_request, order_fault, count_fault, at_body, command_fault, dss_fault, command_of, with_object, with_dss, awaited_after, chain_after, chain_by, chain_step}
 use Rattle.unit_segments.specs.Segment.{segments_of}
 use Rattle.plain_model.specs.Group.{IsCommand}
 use Rattle.plain_model.proofs.Segments.{AreSegments, segments_cut}
@@ -70,17 +70,17 @@ all_with_dss chain placed all none size = cond_both (is_request placed.dss.kind)
 
 pub goes_on_read : (chain : OpenChain) (placed : Placed) (read : Option (List Command)) → chain_step chain placed ≡ Ok read
     → AllByRecursion IsCommand chain.commands → length placed.dss.body + 6 ≤ most_chain_bytes → AllByRecursion IsCommand (chain_after chain placed).commands
-goes_on_read chain placed read e all size = go placed.dss.chained refl
-  where
-    go : (b : Bool) → placed.dss.chained ≡ b → AllByRecursion IsCommand (chain_after chain placed).commands
-    go true is = subst (λ (o : OpenChain). AllByRecursion IsCommand o.commands)
-        (sym (ap (λ b. if b then record { commands = with_dss chain.commands placed; awaited = _; before = placed.dss.corr } else no_chain) is))
-        (all_with_dss chain placed all (no_fault chain placed read e) size)
-    go false is = subst (λ (o : OpenChain). AllByRecursion IsCommand o.commands)
-        (sym (ap (λ b. if b then record { commands = with_dss chain.commands placed; awaited = _; before = placed.dss.corr } else no_chain) is)) tt
+goes_on_read chain placed read e all size = cond_both placed.dss.chained
+    (record { commands = with_dss chain.commands placed; awaited = awaited_after placed.dss; before = placed.dss.corr }) no_chain
+    (λ (o : OpenChain). AllByRecursion IsCommand o.commands)
+    (λ c. all_with_dss chain placed all (no_fault chain placed read e) size)
+    (λ c. tt)
 
-some_is : {A : Type 0} {x y : A} → Some x ≡ Some y → x ≡ y
+pub some_is : {A : Type 0} {x y : A} → Some x ≡ Some y → x ≡ y
 some_is e = cc
+
+ended_is : (r : Result (Option (List Command)) ChainFault) (x y : List Command) → r ≡ Ok (Some x) → r ≡ Ok (Some y) → x ≡ y
+ended_is r x y e f = cc
 
 pub ends_read : (chain : OpenChain) (placed : Placed) (commands : List Command) → chain_step chain placed ≡ Ok (Some commands)
     → AllByRecursion IsCommand chain.commands → length placed.dss.body + 6 ≤ most_chain_bytes → AllByRecursion IsCommand commands
@@ -90,10 +90,11 @@ ends_read chain placed commands e all size =
     let is : chain_by chain placed None ≡ Ok (Some commands) = ap (chain_by chain placed) (sym none) ∙ e in
     go placed.dss.chained is none
   where
-    go : (b : Bool) → Ok (if b then None else Some (with_dss chain.commands placed)) ≡ Ok (Some commands) → dss_fault chain placed ≡ None
+    go : (b : Bool) → Ok (if◌then◌else◌ {A = Option (List Command)} b None (Some (with_dss chain.commands placed))) ≡ Ok (Some commands) → dss_fault chain placed ≡ None
         → AllByRecursion IsCommand commands
     go true f none = absurd cc
-    go false f none = subst (AllByRecursion IsCommand) cc (all_with_dss chain placed all none size)
+    go false f none = subst (AllByRecursion IsCommand)
+        (ended_is (Ok (Some (with_dss chain.commands placed))) (with_dss chain.commands placed) commands refl f) (all_with_dss chain placed all none size)
 
 -- ---- segments
 

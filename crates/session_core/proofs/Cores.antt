@@ -1,8 +1,9 @@
 -- Segments one after another, what runs again where that is nothing, and what an answer makes of the core.
-use Rattle.std.proofs.Common.{◌≡◌, ℕ, zero, suc, ◌+◌, ◌==◌, Bool, true, false, if◌then◌else◌, List, [], ◌∷◌, ◌++◌, drop, Option, Some, None, refl, sym, ap, subst, ◌∙◌, slice_get, add-one}
+use Rattle.std.proofs.Common.{◌≡◌, ℕ, zero, suc, ◌+◌, ◌==◌, Bool, true, false, if◌then◌else◌, List, [], ◌∷◌, ◌++◌, drop, Option, Some, None, refl, sym, ap, subst, ◌∙◌, slice_get, add-one, true≢false}
 use Rattle.std.specs.List.{AllByRecursion}
 use Rattle.std.proofs.lemmas.Bool.{cond_both}
 use Rattle.dss_frame.specs.declared.dss.Dss.{Dss}
+use Rattle.ddm_codepoints.specs.CodeClass.{class_of}
 use Rattle.ddm_codepoints.specs.CodePoint.{secchk, accrdb}
 use Rattle.unit_segments.specs.declared.command.Command.{Command}
 use Rattle.unit_segments.specs.declared.stripped.Stripped.{Stripped}
@@ -10,9 +11,11 @@ use Rattle.unit_segments.specs.Segment.{goes_on_a_run}
 use Rattle.unit_segments.specs.Spelling.{chain_bytes}
 use Rattle.plain_model.specs.Standing.{Standing, after_secchk, after_accrdb, after_end}
 use Rattle.plain_model.specs.Group.{IsCommand}
-use Rattle.plain_model.specs.Core.{Core, first, others}
+use Rattle.plain_model.specs.Local.{is_local, answered_locally}
+use Rattle.plain_model.specs.Core.{Core, Owed, Nothing, Rerouted, Unknown, Settled, first, others, still, moved_too, with_local, settle_by, settle_segments, settle_owed, settled, finish_by, finished}
 use Rattle.plain_model.specs.Answered.{fit, is_work, joins_again, with_work, with_end, with_replies, standing_after, unit_after, answered_core}
 use Rattle.plain_model.proofs.Staged.{isnt_work}
+use Rattle.session_core.specs.SeenAnswer.{left_by}
 use Rattle.session_core.specs.Seen.{unnumbered, standing_by_access, segment_left}
 
 -- ---- lists
@@ -67,6 +70,7 @@ none_fit again e = ap fit e
 
 pub work_stands : (st : Standing) (g : List Command) (r : Stripped) → is_work g ≡ true
     → standing_after st g r ≡ (if r.ended then after_end st r.sets else st)
+unfolding class_of
 work_stands st [] r work = absurd cc
 work_stands st (c ∷ cs) r work =
     go (c.code == secchk) (c.code == accrdb) (λ e. isnt_work c secchk e refl work) (λ e. isnt_work c accrdb e refl work)
@@ -105,3 +109,77 @@ stands_then_left r k =
           ∙ ap (λ b. unnumbered (with_replies r (if b then record k { again = k.again ++ first k.segments } else record k { spoken = true }))) j)))
       (λ f. sym (ap (λ b. unnumbered (with_replies r (if b then with_end r k else (if is_work (first k.segments) then with_work r k else k)))) e
         ∙ ap (λ b. unnumbered (with_replies r (if b then with_work r k else k))) f)))
+
+-- ---- local answers
+
+pub settle_first : (name : List ℕ) (gs : List (List Command)) (k : Core) → is_local name k.standing (first gs) ≡ true
+    → (settle_segments name (left_by (answered_locally name (first gs) k.standing).stopped gs)
+      (with_local (answered_locally name (first gs) k.standing) (left_by (answered_locally name (first gs) k.standing).stopped gs) k)).core
+    ≡ (settle_segments name gs k).core
+unfolding settle_segments
+settle_first name [] k e = absurd (true≢false (sym e))
+settle_first name (g ∷ gs) k e =
+    go (answered_locally name g k.standing).stopped
+    ∙ ap (λ b. (if b then settle_by (answered_locally name g k.standing) gs k (settle_segments name gs) else still k).core) (sym e)
+  where
+    go : (b : Bool)
+        → (settle_segments name (left_by b (g ∷ gs)) (with_local (answered_locally name g k.standing) (left_by b (g ∷ gs)) k)).core
+        ≡ (if b then record { core = with_local (answered_locally name g k.standing) [] k; moved = (answered_locally name g k.standing).moved }
+          else moved_too (answered_locally name g k.standing).moved (settle_segments name gs (with_local (answered_locally name g k.standing) gs k))).core
+    go true = refl
+    go false = refl
+
+pub settle_still : (name : List ℕ) (gs : List (List Command)) (k : Core) → is_local name k.standing (first gs) ≡ false
+    → (settle_segments name gs k).core ≡ k
+unfolding settle_segments
+settle_still name [] k e = refl
+settle_still name (g ∷ gs) k e =
+    ap (λ b. (if b then settle_by (answered_locally name g k.standing) gs k (settle_segments name gs) else still k).core) e
+
+-- the number of the unit in work doesn't matter
+settle_unnumbered : (name : List ℕ) (gs : List (List Command)) (k : Core)
+    → (settle_segments name gs (unnumbered k)).core ≡ unnumbered (settle_segments name gs k).core
+unfolding settle_segments
+settle_unnumbered name [] k = refl
+settle_unnumbered name (g ∷ gs) k =
+    go (is_local name k.standing g) (answered_locally name g k.standing).stopped (settle_unnumbered name gs (with_local (answered_locally name g k.standing) gs k))
+  where
+    go : (b s : Bool)
+        → (settle_segments name gs (unnumbered (with_local (answered_locally name g k.standing) gs k))).core
+        ≡ unnumbered (settle_segments name gs (with_local (answered_locally name g k.standing) gs k)).core
+        → (if b then (if s then record { core = with_local (answered_locally name g k.standing) [] (unnumbered k); moved = (answered_locally name g k.standing).moved }
+          else moved_too (answered_locally name g k.standing).moved (settle_segments name gs (with_local (answered_locally name g k.standing) gs (unnumbered k))))
+          else still (unnumbered k)).core
+        ≡ unnumbered (if b then (if s then record { core = with_local (answered_locally name g k.standing) [] k; moved = (answered_locally name g k.standing).moved }
+          else moved_too (answered_locally name g k.standing).moved (settle_segments name gs (with_local (answered_locally name g k.standing) gs k)))
+          else still k).core
+    go true true h = refl
+    go true false h = h
+    go false s h = refl
+
+owed_unnumbered : (name : List ℕ) (owed : Owed) (k : Core) → (settle_owed name owed (unnumbered k)).core ≡ unnumbered (settle_owed name owed k).core
+owed_unnumbered name Nothing k = settle_unnumbered name k.segments k
+owed_unnumbered name Rerouted k = refl
+owed_unnumbered name Unknown k = refl
+
+pub settled_unnumbered : (name : List ℕ) (k : Core) → (settled name (unnumbered k)).core ≡ unnumbered (settled name k).core
+settled_unnumbered name k = owed_unnumbered name k.owed k
+
+-- whether the session was led to the base doesn't matter either
+finish_said : (gs : List (List Command)) (k : Core) (moved : Bool) → (finish_by gs false (unnumbered k)).said ≡ (finish_by gs moved k).said
+finish_said [] k moved = refl
+finish_said (g ∷ gs) k moved = refl
+
+finish_core : (gs : List (List Command)) (k : Core) (moved : Bool) → (finish_by gs false (unnumbered k)).core ≡ unnumbered (finish_by gs moved k).core
+finish_core [] k moved = refl
+finish_core (g ∷ gs) k moved = refl
+
+pub finished_said : (name : List ℕ) (k : Core) → (finished (still (settled name (unnumbered k)).core)).said ≡ (finished (settled name k)).said
+finished_said name k =
+    ap (λ (j : Core). (finished (still j)).said) (settled_unnumbered name k)
+    ∙ finish_said (settled name k).core.segments (settled name k).core (settled name k).moved
+
+pub finished_core : (name : List ℕ) (k : Core) → (finished (still (settled name (unnumbered k)).core)).core ≡ unnumbered (finished (settled name k)).core
+finished_core name k =
+    ap (λ (j : Core). (finished (still j)).core) (settled_unnumbered name k)
+    ∙ finish_core (settled name k).core.segments (settled name k).core (settled name k).moved

@@ -2,3 +2,4 @@ pub mod Sizes
 pub mod Commands
 pub mod Params
 pub mod Cores
+pub mod Coming

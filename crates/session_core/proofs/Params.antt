@@ -23,7 +23,7 @@ params_needed : (offset code : ℕ) (params : List ℕ) (fault : Option ObjFault
 params_needed offset code params (Some f) is e = absurd cc
 params_needed offset code params None is e = record { members = is; there = go (has_needed code params) refl e }
   where
-    go : (b : Bool) → has_needed code params ≡ b → (if b then None else Some (record { offset = 0; err = 0x0E })) ≡ None → has_needed code params ≡ true
+    go : (b : Bool) → has_needed code params ≡ b → if◌then◌else◌ {A = Option BodyFault} b None (Some (record { offset = 0; err = 0x0E })) ≡ None → has_needed code params ≡ true
     go true is e = is
     go false is e = absurd cc
 
@@ -32,7 +32,7 @@ by_outer : (body : List ℕ) (outer : Result Member ObjFault) → is_looked_into
 by_outer body (Err fault) looked e = absurd cc
 by_outer body (Ok object) looked e =
     params_needed (length body - length object.bytes) object.code object.bytes (members_of object.bytes).fault refl
-    (sym (ap (λ b. if b then params_fault (length body - length object.bytes) object.code object.bytes (members_of object.bytes).fault else None) looked) ∙ e)
+    (sym (ap (λ b. if◌then◌else◌ {A = Option BodyFault} b (params_fault (length body - length object.bytes) object.code object.bytes (members_of object.bytes).fault) None) looked) ∙ e)
 
 body_needed : (body : List ℕ) → is_looked_into (class_of (code_of body)) ≡ true → body_fault body ≡ None → Needed (code_of body) (data_of body)
 unfolding body_fault

@@ -1,6 +1,6 @@
 -- How many bytes the canonical spelling of a DSS has, and replies as one chain.
 use Rattle.std.proofs.Common.{◌≡◌, ℕ, zero, suc, ◌+◌, ◌*◌, ◌-◌, ◌≤◌, ◌<◌, List, [], ◌∷◌, ◌++◌, length, take, drop, refl, sym, ap, ◌∙◌, arith, flat_map}
-use Rattle.std.proofs.Common.{length-append, length-drop, Bool, true, false, if◌then◌else◌, Option, Some, None, is_none, nat_le, nat_lt, subst, leb-true, leb-false}
+use Rattle.std.proofs.Common.{length-append, length-drop, Bool, true, false, if◌then◌else◌, Option, Some, None, is_none, nat_le, nat_lt, subst, leb-true, leb-false, zero-add}
 use Rattle.std.proofs.lemmas.Bool.{lt-ltb, le-ltb}
 use Rattle.std.proofs.lemmas.List.{length-take}
 use Rattle.dss_frame.specs.declared.dss.Dss.{Dss}
@@ -27,7 +27,7 @@ canonical_size d =
     omega (arith, later, left, ap further_count left, length-append first (further count rest), length-take first_room d.body)
 
 -- all replies, one behind another
-pub sizes : List Dss → ℕ
+abbrev pub sizes : List Dss → ℕ
 sizes [] = 0
 sizes (d ∷ replies) = spelled_size (length d.body) + sizes replies
 
@@ -43,7 +43,7 @@ unfolding join
 join_size replies = joined_size replies
 
 pub sizes_append : (kept replies : List Dss) → sizes (kept ++ replies) ≡ sizes kept + sizes replies
-sizes_append [] replies = refl
+sizes_append [] replies = sym (zero-add (sizes replies))
 sizes_append (d ∷ kept) replies =
     let later : sizes (kept ++ replies) ≡ sizes kept + sizes replies = sizes_append kept replies in
     omega (arith, later)
@@ -64,7 +64,7 @@ by_fit n room size true behind found test e later = further_room_is n room size 
 by_fit n room size false behind found test e later = subst (IsRoom room (n + size)) e (omega (arith, leb-false n room test))
 
 pub rooms : (room : ℕ) (replies : List Dss) (found : Option ℕ) → room_behind room replies ≡ found → IsRoom room (sizes replies) found
-rooms room [] found e = subst (IsRoom room 0) e refl
+rooms room [] found e = subst (IsRoom room 0) e (zero-add room)
 rooms room (d ∷ replies) found e =
     let n = spelled_size (length d.body) in
     by_fit n room (sizes replies) (nat_le n room) (room_behind (room - n) replies) found refl e (rooms (room - n) replies)
@@ -86,3 +86,8 @@ passes_then most room kept replies (Some left) e f =
     let front : sizes kept + room ≡ most = rooms most kept (Some room) e in
     let fits : sizes replies + left ≡ room = rooms room replies (Some left) f in
     sym (le-ltb most _ (omega (arith, front, fits, join_size (kept ++ replies), sizes_append kept replies)))
+
+pub room_most : (most room : ℕ) (kept : List Dss) → room_behind most kept ≡ Some room → room ≤ most
+room_most most room kept e =
+    let front : sizes kept + room ≡ most = rooms most kept (Some room) e in
+    omega (arith, front)

@@ -81,7 +81,6 @@ impl Incoming {
             match self.chains.add(placed) {
                 Ok(None) => {}
                 Ok(Some(chain)) => return Ok(Some(Reading::Chain(chain))),
-                Err(ChainFault::NoMemory) => return Err(NoMemory),
                 Err(ChainFault::Syntax { at, err, corr }) => {
                     self.chains = ChainReader::new(self.alloc);
                     return Ok(Some(Reading::Fault {
@@ -93,6 +92,10 @@ impl Incoming {
                 Err(ChainFault::TooMany { corr, .. }) => {
                     self.chains = ChainReader::new(self.alloc);
                     return Ok(Some(Reading::TooLong { number: corr }));
+                }
+                Err(ChainFault::NoMemory) => {
+                    self.chains = ChainReader::new(self.alloc);
+                    return Err(NoMemory);
                 }
             }
         }

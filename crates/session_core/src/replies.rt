@@ -5,7 +5,7 @@ ghost use Rattle.reply_texts.specs.RdbName.{characters_of};
 ghost use Rattle.reply_texts.specs.Reply.{severity, abnuow_object};
 ghost use Rattle.reply_texts.specs.Sqlcard.{has_text, sqlcard_object};
 ghost use Rattle.reply_texts.specs.Closing.{last, ended_card};
-ghost use Rattle.plain_model.specs.Lost.{own_card, rerouted_card};
+ghost use Rattle.plain_model.specs.Lost.{rerouted_card};
 ghost use Rattle.session_core.specs.Seen.{seen_owed};
 
 use byteorder::{BigEndian, ByteOrder};
@@ -23,15 +23,6 @@ const REROUTED: i32 = -30108;
 /// The SQLCODE of a session that has no member left.
 const NO_MEMBER: i32 = -30081;
 
-/// The SQLSTATE of a unit of work that was rolled back, where its session goes on.
-const ROLLED_BACK: [u8; 5] = *b"08506";
-
-/// The SQLSTATE of a unit of work that was rolled back, where no member is left.
-const NONE_LEFT: [u8; 5] = *b"08001";
-
-/// The SQLSTATE of a unit of work of which it isn't known what became.
-const NOT_KNOWN: [u8; 5] = *b"08007";
-
 /// A DSS that is the last of its chain.
 pub(crate) fn last(kind: Kind, corr: u16, body: Octets) -> Dss
     ensures { result ≡ last kind corr body }
@@ -46,38 +37,44 @@ pub(crate) fn last(kind: Kind, corr: u16, body: Octets) -> Dss
     }
 }
 
-/// A card of the gateway's own.
-fn own_card(code: i32, state: [u8; 5]) -> Card
-    ensures { result ≡ own_card code state }
-{
-    Card::Full(Sqlca {
-        code,
-        state,
-        proc: [b' '; 8],
-    })
-}
-
 /// What is said where the session goes on with another server.
+#[tactic(auto, unfolding(ddm_codepoints::specs::Character::ebcdic_of))]
 pub(crate) fn rerouted_card(owed: Option<Owed>) -> Card
     ensures card { result ≡ rerouted_card (seen_owed owed) }
     ensures text { IsTrue (has_text result) }
 {
     match owed {
-        Some(Owed::Unknown) => own_card(REROUTED, NOT_KNOWN),
-        Some(Owed::Rerouted) | None => own_card(REROUTED, ROLLED_BACK),
+        Some(Owed::Unknown) => Card::Full(Sqlca {
+            code: REROUTED,
+            state: *b"08007",
+            proc: [b' '; 8],
+        }),
+        Some(Owed::Rerouted) | None => Card::Full(Sqlca {
+            code: REROUTED,
+            state: *b"08506",
+            proc: [b' '; 8],
+        }),
     }
 }
 
 /// What is said where no member is left.
+#[tactic(auto, unfolding(ddm_codepoints::specs::Character::ebcdic_of))]
 pub(crate) fn ended_card(unknown: bool) -> Card
     ensures card { result ≡ ended_card unknown }
     ensures text { IsTrue (has_text result) }
 {
     if unknown {
-        own_card(NO_MEMBER, NOT_KNOWN)
-    } else {
-        own_card(NO_MEMBER, NONE_LEFT)
+        return Card::Full(Sqlca {
+            code: NO_MEMBER,
+            state: *b"08007",
+            proc: [b' '; 8],
+        });
     }
+    Card::Full(Sqlca {
+        code: NO_MEMBER,
+        state: *b"08001",
+        proc: [b' '; 8],
+    })
 }
 
 /// ABNUOWRM with this correlation number (DDM, volume 3, ABNUOWRM).

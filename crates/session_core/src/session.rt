@@ -9,7 +9,7 @@ ghost use Rattle.plain_model.specs.Core.{new_core, first, others, first_number, 
 ghost use Rattle.plain_model.specs.Local.{is_local};
 ghost use Rattle.plain_model.specs.Begun.{Chain as ChainRead, Fault, TooLong, begun};
 ghost use Rattle.plain_model.specs.Answered.{answered, answered_core, unit_after, standing_after, register_fault, past_limit};
-ghost use Rattle.plain_model.specs.Lost.{lost, owes, accepted, rolled_back_with, none_left, closed, left};
+ghost use Rattle.plain_model.specs.Lost.{lost, owes, accepted, rolled_back_with, none_left_replies, none_left, message, closed, left};
 ghost use Rattle.session_core.specs.Seen.{seen_owed, seen_kind, seen_end, unnumbered, ends_kept, standing_by_access, work_done, segment_left};
 ghost use Rattle.session_core.specs.SeenAnswer.{with_first};
 
@@ -138,6 +138,7 @@ impl SessionCore {
 
     /// Whether the replies to the chain in work have too many bytes with these behind those that are kept: more than 33,554,432 in one
     /// chain.
+    #[tactic(auto, using(crate::proofs::Sizes::passes_first, crate::proofs::Sizes::passes_then, crate::proofs::Sizes::room_most))]
     pub fn passes_limit(&self, replies: &DssList) -> bool
         ensures { result ≡ nat_lt most_reply_bytes (length (join (self.now.kept ++ replies.now))) }
     {
@@ -227,7 +228,7 @@ impl SessionCore {
     }
 
     /// The segment in work was answered so: the bytes of the reply to the whole chain, where it was the last of it.
-    #[tactic(auto, unfolding(plain_model::specs::Answered::answered))]
+    #[tactic(auto, unfolding(plain_model::specs::Answered::answered), using(crate::proofs::Cores::finished_said, crate::proofs::Cores::finished_core))]
     pub fn answer(&mut self, rdb: &RdbName, stripped: Stripped) -> Result<Octets, NoMemory>
         ensures said { IfOk result (λ said. said ≡ (answered (characters_of rdb.now) stripped self.old).said) }
         ensures core { OnOk result (self.new ≡ unnumbered (answered (characters_of rdb.now) stripped self.old).core) }
@@ -243,6 +244,7 @@ impl SessionCore {
     }
 
     /// The segment leaves with its replies: what is wrong with the registers that its unit of work has set, if something is.
+    #[tactic(auto, using(crate::proofs::Cores::stands_then_left))]
     fn take_answer(&mut self, stripped: Stripped) -> Result<Option<RegisterFault>, NoMemory>
         ensures fault { IfOk result (λ fault. fault ≡ register_fault stripped self.old) }
         ensures core { OnOk result (self.new ≡ unnumbered (answered_core stripped self.old)) }
@@ -254,6 +256,7 @@ impl SessionCore {
     }
 
     /// The session stands where the replies to the segment lead it.
+    #[tactic(auto, using(crate::proofs::Cores::work_stands, crate::proofs::Cores::access_stands))]
     fn stand(&mut self, stripped: &Stripped) -> Result<Option<RegisterFault>, NoMemory>
         ensures fault { IfOk result (λ fault. fault ≡ register_fault stripped.now self.old) }
         ensures core { OnOk result (self.new ≡ record self.old { standing = standing_after self.old.standing (first self.old.segments) stripped.now }) }
@@ -352,6 +355,7 @@ impl SessionCore {
     }
 
     /// The next segment of the chain comes into work.
+    #[tactic(auto, using(crate::proofs::Cores::others_drop))]
     fn next(&mut self)
         ensures { self.new ≡ record self.old { segments = others self.old.segments } }
     {
@@ -376,6 +380,7 @@ impl SessionCore {
     // ---- what the gateway itself answers
 
     /// The segments in front that the gateway itself answers are answered, while nothing is owed.
+    #[tactic(auto, using(crate::proofs::Cores::settle_first, crate::proofs::Cores::settle_still))]
     fn settle(&mut self, rdb: &RdbName) -> Result<(), NoMemory>
         ensures { OnOk result (self.new ≡ (settled (characters_of rdb.now) self.old).core) }
     {
@@ -483,15 +488,34 @@ impl SessionCore {
         ensures said { IfOk result (λ said. said ≡ (none_left (characters_of rdb.now) self.old).said) }
         ensures core { OnOk result (self.new ≡ (none_left (characters_of rdb.now) self.old).core) }
     {
-        if matches!(self.standing.stage(), Stage::Accessed) {
-            let unknown = matches!(self.owed, Some(Owed::Unknown));
-            self.roll_back(rdb, &ended_card(unknown))?;
-        } else {
-            let number = self.first_number();
-            self.kept
-                .push(message(self.alloc, AGNPRMRM, SEVERE, number)?)?;
-        }
+        self.put_last(rdb)?;
         self.end_with(CoreEnd::NoMember)
+    }
+
+    /// Keeps what is told where no member gives access.
+    fn put_last(&mut self, rdb: &RdbName) -> Result<(), NoMemory>
+        ensures { OnOk result (self.new ≡ record self.old {
+          kept = self.old.kept ++ none_left_replies (characters_of rdb.now) self.old.standing.stage self.old
+        }) }
+    {
+        match self.standing.stage() {
+            Stage::New | Stage::Attached | Stage::Chosen | Stage::Checked => {
+                self.put_message(AGNPRMRM, SEVERE)
+            }
+            Stage::Accessed => {
+                let unknown = matches!(self.owed, Some(Owed::Unknown));
+                self.roll_back(rdb, &ended_card(unknown))
+            }
+        }
+    }
+
+    /// Keeps a reply message with its severity alone, with the number of the first command in work.
+    fn put_message(&mut self, code: u16, value: u16) -> Result<(), NoMemory>
+        ensures { OnOk result (self.new ≡ record self.old { kept = self.old.kept ++ message code value self.old }) }
+    {
+        let number = self.first_number();
+        self.kept
+            .push(message(self.alloc, code, value, number)?)
     }
 
     // ---- other ends
@@ -502,9 +526,7 @@ impl SessionCore {
         ensures said { IfOk result (λ said. said ≡ (closed (seen_kind kind) self.old).said) }
         ensures core { OnOk result (self.new ≡ (closed (seen_kind kind) self.old).core) }
     {
-        let number = self.first_number();
-        self.kept
-            .push(message(self.alloc, RSCLMTRM, ERROR, number)?)?;
+        self.put_message(RSCLMTRM, ERROR)?;
         self.end_with(CoreEnd::Limit { kind })
     }
 

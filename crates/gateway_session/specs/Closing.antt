@@ -1,0 +1,9 @@
+-- What code has for a session, whether it runs or closes. No standard speaks of it: this is this project's own.
+use Rattle.std.specs.Prelude.{drop, Option, Some, None}
+use Rattle.gateway_session.specs.declared.session.Closing.{Closing as Left}
+use Rattle.gateway_session.specs.Session.{Session}
+use Rattle.gateway_session.specs.Memory.{State, Runs, Closes}
+
+abbrev pub state_of : Session → Option Left → State
+state_of s None = Runs s
+state_of s (Some left) = Closes (record { rest = s.to_say; reply = drop left.said left.reply; loss = s.unasked.loss; gone = s.gone })
