@@ -4,3 +4,4 @@ pub mod Steps
 pub mod Inputs
 pub mod Memory
 pub mod Closing
+pub mod Laws

@@ -3,11 +3,13 @@
 #![tactic(auto)]
 
 mod held;
+mod laws;
 mod loss;
 mod need;
 mod running;
 mod session;
 
+pub use laws::{pieces_are_answered, pieces_are_said};
 pub use loss::{ErrorWord, Lent, LossWhy};
 pub use need::{End, Need};
 pub use session::Session;

@@ -7,10 +7,8 @@ use Rattle.unit_segments.specs.declared.fault.ChainFault.{ChainFault}
 use Rattle.dss_frame.specs.Reading.{View}
 use Rattle.unit_segments.specs.Chain.{OpenChain, no_chain, awaited_after, with_dss, dss_fault, chain_by, chain_step, chain_after}
 use Rattle.plain_model.specs.Begun.{Chain}
+use Rattle.session_core.proofs.Commands.{some_is, no_fault, read_is}
 use Rattle.session_core.specs.Incoming.{Incoming, of_frame, of_chain, Next, next_by, next_in, next_of, without_next}
-
-some_is : {A : Type 0} {x y : A} → Some x ≡ Some y → x ≡ y
-some_is e = cc
 
 -- by its first DSS
 first_comes : (chain : OpenChain) (whole : List Placed) (fault : Option StreamFault) (placed : Placed) (step : Result (Option (List Command)) ChainFault)
@@ -41,16 +39,17 @@ fails_so chain whole fault placed bad first is = first_comes chain whole fault p
 pub ends_after : (chain : OpenChain) (placed : Placed) (commands : List Command) → chain_step chain placed ≡ Ok (Some commands)
     → chain_after chain placed ≡ no_chain
 unfolding chain_step
-ends_after chain placed commands e = by_fault (dss_fault chain placed) e
+ends_after chain placed commands e =
+    let none = no_fault chain placed (Some commands) e in
+    let is : chain_by chain placed None ≡ Ok (Some commands) = ap (chain_by chain placed) (sym none) ∙ e in
+    go placed.dss.chained refl
+    (read_is (chain_by chain placed None) (if placed.dss.chained then None else Some (with_dss chain.commands placed)) (Some commands) refl is)
   where
-    by_chained : (b : Bool) → placed.dss.chained ≡ b → Ok (if◌then◌else◌ {A = Option (List Command)} b None (Some (with_dss chain.commands placed))) ≡ Ok (Some commands)
+    go : (b : Bool) → placed.dss.chained ≡ b → if◌then◌else◌ {A = Option (List Command)} b None (Some (with_dss chain.commands placed)) ≡ Some commands
         → chain_after chain placed ≡ no_chain
-    by_chained true is f = absurd cc
-    by_chained false is f =
+    go true is f = absurd cc
+    go false is f =
         ap (λ b. if b then record { commands = with_dss chain.commands placed; awaited = awaited_after placed.dss; before = placed.dss.corr } else no_chain) is
-    by_fault : (fault : Option ChainFault) → chain_by chain placed fault ≡ Ok (Some commands) → chain_after chain placed ≡ no_chain
-    by_fault None f = by_chained placed.dss.chained refl f
-    by_fault (Some fault) f = absurd cc
 
 abbrev the_rest : View → OpenChain → Incoming
 the_rest frames chain = record { frames = frames; chain = chain }

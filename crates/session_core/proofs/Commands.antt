@@ -79,8 +79,8 @@ goes_on_read chain placed read e all size = cond_both placed.dss.chained
 pub some_is : {A : Type 0} {x y : A} → Some x ≡ Some y → x ≡ y
 some_is e = cc
 
-ended_is : (r : Result (Option (List Command)) ChainFault) (x y : List Command) → r ≡ Ok (Some x) → r ≡ Ok (Some y) → x ≡ y
-ended_is r x y e f = cc
+pub read_is : (step : Result (Option (List Command)) ChainFault) (x y : Option (List Command)) → step ≡ Ok x → step ≡ Ok y → x ≡ y
+read_is step x y e f = cc
 
 pub ends_read : (chain : OpenChain) (placed : Placed) (commands : List Command) → chain_step chain placed ≡ Ok (Some commands)
     → AllByRecursion IsCommand chain.commands → length placed.dss.body + 6 ≤ most_chain_bytes → AllByRecursion IsCommand commands
@@ -88,13 +88,13 @@ unfolding chain_step
 ends_read chain placed commands e all size =
     let none = no_fault chain placed (Some commands) e in
     let is : chain_by chain placed None ≡ Ok (Some commands) = ap (chain_by chain placed) (sym none) ∙ e in
-    go placed.dss.chained is none
+    go placed.dss.chained
+    (read_is (chain_by chain placed None) (if placed.dss.chained then None else Some (with_dss chain.commands placed)) (Some commands) refl is) none
   where
-    go : (b : Bool) → Ok (if◌then◌else◌ {A = Option (List Command)} b None (Some (with_dss chain.commands placed))) ≡ Ok (Some commands) → dss_fault chain placed ≡ None
-        → AllByRecursion IsCommand commands
+    go : (b : Bool) → if◌then◌else◌ {A = Option (List Command)} b None (Some (with_dss chain.commands placed)) ≡ Some commands
+        → dss_fault chain placed ≡ None → AllByRecursion IsCommand commands
     go true f none = absurd cc
-    go false f none = subst (AllByRecursion IsCommand)
-        (ended_is (Ok (Some (with_dss chain.commands placed))) (with_dss chain.commands placed) commands refl f) (all_with_dss chain placed all none size)
+    go false f none = subst (AllByRecursion IsCommand) (some_is f) (all_with_dss chain placed all none size)
 
 -- ---- segments
 

@@ -3,6 +3,11 @@ use Rattle.std.proofs.Common.{◌≡◌, ℕ, zero, suc, ◌+◌, ◌==◌, Bool
 use Rattle.std.specs.List.{AllByRecursion}
 use Rattle.std.proofs.lemmas.Bool.{cond_both}
 use Rattle.dss_frame.specs.declared.dss.Dss.{Dss}
+use Rattle.dss_frame.specs.declared.dss.Kind.TheVariants.{Reply}
+use Rattle.ddm_objects.specs.Objects.{canonical_object}
+use Rattle.reply_texts.specs.Reply.{severity}
+use Rattle.reply_texts.specs.Closing.{last}
+use Rattle.plain_model.specs.Lost.{message}
 use Rattle.ddm_codepoints.specs.CodeClass.{class_of}
 use Rattle.ddm_codepoints.specs.CodePoint.{secchk, accrdb}
 use Rattle.unit_segments.specs.declared.command.Command.{Command}
@@ -12,7 +17,7 @@ use Rattle.unit_segments.specs.Spelling.{chain_bytes}
 use Rattle.plain_model.specs.Standing.{Standing, after_secchk, after_accrdb, after_end}
 use Rattle.plain_model.specs.Group.{IsCommand}
 use Rattle.plain_model.specs.Local.{is_local, answered_locally}
-use Rattle.plain_model.specs.Core.{Core, Owed, Nothing, Rerouted, Unknown, Settled, first, others, still, moved_too, with_local, settle_by, settle_segments, settle_owed, settled, finish_by, finished}
+use Rattle.plain_model.specs.Core.{Core, Owed, Nothing, Rerouted, Unknown, Settled, first, others, first_number, still, moved_too, with_local, settle_by, settle_segments, settle_owed, settled, finish_by, finished}
 use Rattle.plain_model.specs.Answered.{fit, is_work, joins_again, with_work, with_end, with_replies, standing_after, unit_after, answered_core}
 use Rattle.plain_model.proofs.Staged.{isnt_work}
 use Rattle.session_core.specs.SeenAnswer.{left_by}
@@ -183,3 +188,10 @@ pub finished_core : (name : List ℕ) (k : Core) → (finished (still (settled n
 finished_core name k =
     ap (λ (j : Core). (finished (still j)).core) (settled_unnumbered name k)
     ∙ finish_core (settled name k).core.segments (settled name k).core (settled name k).moved
+
+-- ---- a reply message
+
+pub with_message : (kept : List Dss) (d : Dss) (code value number : ℕ) (k : Core) → number ≡ first_number k
+    → d ≡ last Reply number (canonical_object code (severity value)) → kept ++ d ∷ [] ≡ kept ++ message code value k
+with_message kept d code value number k number_is is =
+    ap (λ (x : Dss). kept ++ x ∷ []) (is ∙ ap (λ n. last Reply n (canonical_object code (severity value))) number_is)

@@ -15,7 +15,7 @@ returns-in_ok-settle-in-None-clause-said c =
     let k = c.args.self.now in
     let there : Core = answered_core c.args.stripped k in
     let settled_is : c.settle.new.self ≡ (settled name (unnumbered there)).core =
-        c.in_ok-settle.ensures ∙ ap (λ (j : Core). (settled name j).core) c.in_ok-take_answer.ensures.core in
+        c.in_ok-settle-in-None.ensures ∙ ap (λ (j : Core). (settled name j).core) c.in_ok-take_answer.ensures.core in
     let fault : register_fault c.args.stripped k ≡ None = sym c.in_ok-take_answer.ensures.fault ∙ c.in-None.is in
     IfOk-weaker c.finish.result _ _
     (λ said e. e
@@ -31,7 +31,7 @@ returns-in_ok-settle-in-None-clause-core c =
     let k = c.args.self.now in
     let there : Core = answered_core c.args.stripped k in
     let settled_is : c.settle.new.self ≡ (settled name (unnumbered there)).core =
-        c.in_ok-settle.ensures ∙ ap (λ (j : Core). (settled name j).core) c.in_ok-take_answer.ensures.core in
+        c.in_ok-settle-in-None.ensures ∙ ap (λ (j : Core). (settled name j).core) c.in_ok-take_answer.ensures.core in
     let fault : register_fault c.args.stripped k ≡ None = sym c.in_ok-take_answer.ensures.fault ∙ c.in-None.is in
     on_ok_weaker c.finish.result
     (λ e. e
