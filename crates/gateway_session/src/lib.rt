@@ -9,7 +9,7 @@ mod need;
 mod running;
 mod session;
 
-pub use laws::{pieces_are_answered, pieces_are_said};
+pub use laws::{pieces_are_answered, pieces_are_said, pieces_are_taken};
 pub use loss::{ErrorWord, Lent, LossWhy};
 pub use need::{End, Need};
 pub use session::Session;
