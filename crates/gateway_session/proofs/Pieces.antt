@@ -60,8 +60,8 @@ read_in_pieces s held talking byte next bytes others holds open_still =
     let piece = byte ∷ bytes in
     let more = next ∷ others in
     let first : after_back piece s ≡ with_back s held piece talking =
-        come s s.held held held.talk talking piece refl holds.transport refl holds.conversation
-        ∙ stays (back piece talking).got (with_back s held piece talking) open_still.more in
+    come s s.held held held.talk talking piece refl holds.transport refl holds.conversation
+    ∙ stays (back piece talking).got (with_back s held piece talking) open_still.more in
     let both : back more (back piece talking).talk ≡ back (piece ++ more) talking = pieces_joined talking piece more open_still in
     ap (after_back more) first
     ∙ ap (λ b. back_by (Some b.got) (record s { held = Some (record held { talk = Some b.talk }) })) both

@@ -37,7 +37,7 @@ goes chain (p ∷ whole) fault e = by_step (chain_step chain p) refl e (goes (ch
     by_step (Ok (Some commands)) is f later = absurd cc
     by_step (Ok None) is f later =
         let same : next_by (chain_step chain p) whole (next_in (chain_after chain p) whole fault) ≡ next_in (chain_after chain p) whole fault =
-            ap (λ step. next_by step whole (next_in (chain_after chain p) whole fault)) is in
+        ap (λ step. next_by step whole (next_in (chain_after chain p) whole fault)) is in
         let rest = later f in
         record {
           none = ap (λ n. n.whole) same ∙ rest.none;
@@ -86,13 +86,13 @@ both_left came p q e =
     }) (left_so came p e)
     ∙ ap (λ (n : Next). record { frames = record w { whole = n.whole }; chain = n.chain }) (both_next came p q e)
     ∙ ap (λ (v : View). record { frames = record v { whole = (next_of (with_piece (p ++ q) came)).whole }; chain = (next_of (with_piece (p ++ q) came)).chain })
-      (sym (second came.frames p q))
+    (sym (second came.frames p q))
 
 pub taken_in_pieces : TakesInPieces
 unfolding begin_next after_app
 taken_in_pieces s p q e =
     let first : after_app p s ≡ record s { incoming = without_next (with_piece p s.incoming) } =
-        ap (λ o. begun_by o (record s { incoming = without_next (with_piece p s.incoming) })) e in
+    ap (λ o. begun_by o (record s { incoming = without_next (with_piece p s.incoming) })) e in
     ap (after_app q) first
     ∙ ap (λ (n : Next). begun_by n.reading (record s { incoming = without_next (with_piece q (without_next (with_piece p s.incoming))) })) (both_next s.incoming p q e)
     ∙ ap (λ (i : Incoming). begun_by (next_of (with_piece (p ++ q) s.incoming)).reading (record s { incoming = i })) (both_left s.incoming p q e)

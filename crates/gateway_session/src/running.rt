@@ -7,7 +7,8 @@ ghost use Rattle.gateway_session.specs.Session.{new_session, uncounted, need, ne
 ghost use Rattle.gateway_session.specs.Session.{sending_by_held, number_of};
 ghost use Rattle.gateway_session.specs.Steps.{after_lost, going_on, set_out, says, begin_next, begun_with, after_app, after_said, after_app_end};
 ghost use Rattle.gateway_session.specs.Steps.{after_lend, holding, with_none_left, with_limit, after_dialled, after_given, after_sent, after_back};
-ghost use Rattle.gateway_session.specs.Steps.{got_on, talked_on, with_accepted, with_release, with_whole, with_answered, untried, is_tried_at_once, tried_once, none_left_word, accept_word};
+ghost use Rattle.gateway_session.specs.Steps.{got_on, talked_on, with_accepted, with_release, with_whole, with_answered, untried};
+ghost use Rattle.gateway_session.specs.Steps.{is_tried_at_once, tried_once, none_left_word, accept_word};
 ghost use Rattle.gateway_session.specs.Memory.{KeepsSaying, loss_at_end, stopped};
 ghost use Rattle.gateway_session.specs.Members.{IsMember, LendsMember};
 

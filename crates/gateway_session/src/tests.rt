@@ -30,9 +30,7 @@ const INSERT: [u8; 55] = [
 ];
 
 /// RDBCMM, alone in its chain.
-const COMMIT: [u8; 10] = [
-    0x00, 0x0A, 0xD0, 0x01, 0x00, 0x01, 0x00, 0x04, 0x20, 0x0E,
-];
+const COMMIT: [u8; 10] = [0x00, 0x0A, 0xD0, 0x01, 0x00, 0x01, 0x00, 0x04, 0x20, 0x0E];
 
 /// EXCSQLSET of a SET statement.
 const SET: [u8; 51] = [
@@ -318,10 +316,22 @@ fn accessed(alloc: Global, most: usize) -> Result<Session, Fail> {
 fn a_unit_is_committed_and_its_transport_given_back(rt: HostRuntime) -> Result<(), Fail> {
     for most in PIECES {
         let mut session = accessed(rt.alloc(), most)?;
-        let done = run(rt.alloc(), &mut session, &INSERT, &[Turn::Reply(&DONE)], most)?;
+        let done = run(
+            rt.alloc(),
+            &mut session,
+            &INSERT,
+            &[Turn::Reply(&DONE)],
+            most,
+        )?;
         assert!(rt; done.said.as_slice() == DONE.as_slice());
         assert!(rt; session.held() == Some(1) && done.given == 0);
-        let done = run(rt.alloc(), &mut session, &COMMIT, &[Turn::Reply(&RELEASED)], most)?;
+        let done = run(
+            rt.alloc(),
+            &mut session,
+            &COMMIT,
+            &[Turn::Reply(&RELEASED)],
+            most,
+        )?;
         assert!(rt; done.said.as_slice() == COMMITTED.as_slice());
         assert!(rt; session.held().is_none() && done.given == 1);
         assert!(rt; session.lost().is_none() && session.told().is_none());
@@ -330,11 +340,33 @@ fn a_unit_is_committed_and_its_transport_given_back(rt: HostRuntime) -> Result<(
 }
 
 #[test]
-fn a_server_is_sent_each_chain_of_the_handshake_and_then_the_segments(rt: HostRuntime) -> Result<(), Fail> {
+fn a_server_is_sent_each_chain_of_the_handshake_and_then_the_segments(
+    rt: HostRuntime,
+) -> Result<(), Fail> {
     let mut session = Session::new(rt.alloc(), 1, &name()?)?;
     let mut sent = run(rt.alloc(), &mut session, &START, &OPENING, 65_536)?.sent;
-    sent.push_all(run(rt.alloc(), &mut session, &INSERT, &[Turn::Reply(&DONE)], 65_536)?.sent.as_slice())?;
-    sent.push_all(run(rt.alloc(), &mut session, &COMMIT, &[Turn::Reply(&RELEASED)], 65_536)?.sent.as_slice())?;
+    sent.push_all(
+        run(
+            rt.alloc(),
+            &mut session,
+            &INSERT,
+            &[Turn::Reply(&DONE)],
+            65_536,
+        )?
+        .sent
+        .as_slice(),
+    )?;
+    sent.push_all(
+        run(
+            rt.alloc(),
+            &mut session,
+            &COMMIT,
+            &[Turn::Reply(&RELEASED)],
+            65_536,
+        )?
+        .sent
+        .as_slice(),
+    )?;
     assert!(rt; sent.as_slice() == SENT.as_slice());
     Ok(())
 }
@@ -374,7 +406,13 @@ const OWED: [Turn; 5] = [
 fn a_unit_that_answered_is_rerouted(rt: HostRuntime) -> Result<(), Fail> {
     for most in PIECES {
         let mut session = accessed(rt.alloc(), most)?;
-        run(rt.alloc(), &mut session, &INSERT, &[Turn::Reply(&DONE)], most)?;
+        run(
+            rt.alloc(),
+            &mut session,
+            &INSERT,
+            &[Turn::Reply(&DONE)],
+            most,
+        )?;
         let done = run(rt.alloc(), &mut session, &INSERT, &OWED, most)?;
         assert!(rt; done.said.as_slice() == REROUTED.as_slice());
         assert!(rt; matches!(session.told(), Some(ErrorWord::Rerouted)));
@@ -420,7 +458,13 @@ fn sets_run_again_before_the_segment(rt: HostRuntime) -> Result<(), Fail> {
 fn a_pinned_unit_is_rerouted(rt: HostRuntime) -> Result<(), Fail> {
     for most in PIECES {
         let mut session = accessed(rt.alloc(), most)?;
-        let done = run(rt.alloc(), &mut session, &COMMIT, &[Turn::Reply(&KEPT)], most)?;
+        let done = run(
+            rt.alloc(),
+            &mut session,
+            &COMMIT,
+            &[Turn::Reply(&KEPT)],
+            most,
+        )?;
         assert!(rt; done.said.as_slice() == COMMITTED.as_slice());
         assert!(rt; done.given == 0 && session.held() == Some(1));
         let done = run(rt.alloc(), &mut session, &INSERT, &OWED, most)?;
@@ -436,7 +480,9 @@ fn no_member_is_left(rt: HostRuntime) -> Result<(), Fail> {
         let turns = [DIAL, Turn::Dial(false), Turn::Lend(Lent::NoneLeft)];
         let done = run(rt.alloc(), &mut session, &START, &turns, most)?;
         let said = done.said.as_slice();
-        assert!(rt; said.starts_with(&WELCOME[..79]) && said.ends_with(&NO_ACCESS) && said.len() == 95);
+        assert!(rt;
+            said.starts_with(&WELCOME[..79]) && said.ends_with(&NO_ACCESS) && said.len() == 95
+        );
         assert!(rt; matches!(session.need(), Need::Done(End::NoMember { tried }) if tried.has(1)));
         assert!(rt; matches!(session.told(), Some(ErrorWord::NoAccess)));
         let mut session = accessed(rt.alloc(), most)?;
@@ -455,7 +501,10 @@ fn losses_count_within_one_segment(rt: HostRuntime) -> Result<(), Fail> {
     let turns = [Turn::Lose(LossWhy::Cut)];
     run(rt.alloc(), &mut session, &INSERT, &turns, 65_536)?;
     assert!(rt; session.fresh() && !session.tried().has(1));
-    session.on_lend(Lent::Dial { number: 2, member: 1 })?;
+    session.on_lend(Lent::Dial {
+        number: 2,
+        member: 1,
+    })?;
     session.on_dialled(true)?;
     session.on_lost(LossWhy::Cut)?;
     assert!(rt; session.fresh() && session.tried().has(1));

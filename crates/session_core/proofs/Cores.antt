@@ -103,23 +103,23 @@ stands_then_left r k =
     (λ u. segment_left r (unnumbered u) ≡ unnumbered (answered_core r k))
     (λ e. sym (ap (λ b. unnumbered (with_replies r (if b then with_end r k else (if is_work (first k.segments) then with_work r k else k)))) e))
     (λ e. cond_both (is_work (first k.segments)) (with_work r there) there
-      (λ u. segment_left r (unnumbered u) ≡ unnumbered (answered_core r k))
-      (λ f. cond_both (joins_again r.replies k) (record there { again = k.again ++ first k.segments }) (record there { spoken = true })
-        (λ u. segment_left r (unnumbered u) ≡ unnumbered (answered_core r k))
-        (λ j. sym (ap (λ b. unnumbered (with_replies r (if b then with_end r k else (if is_work (first k.segments) then with_work r k else k)))) e
-          ∙ ap (λ b. unnumbered (with_replies r (if b then with_work r k else k))) f
-          ∙ ap (λ b. unnumbered (with_replies r (if b then record k { again = k.again ++ first k.segments } else record k { spoken = true }))) j))
-        (λ j. sym (ap (λ b. unnumbered (with_replies r (if b then with_end r k else (if is_work (first k.segments) then with_work r k else k)))) e
-          ∙ ap (λ b. unnumbered (with_replies r (if b then with_work r k else k))) f
-          ∙ ap (λ b. unnumbered (with_replies r (if b then record k { again = k.again ++ first k.segments } else record k { spoken = true }))) j)))
-      (λ f. sym (ap (λ b. unnumbered (with_replies r (if b then with_end r k else (if is_work (first k.segments) then with_work r k else k)))) e
-        ∙ ap (λ b. unnumbered (with_replies r (if b then with_work r k else k))) f)))
+    (λ u. segment_left r (unnumbered u) ≡ unnumbered (answered_core r k))
+    (λ f. cond_both (joins_again r.replies k) (record there { again = k.again ++ first k.segments }) (record there { spoken = true })
+    (λ u. segment_left r (unnumbered u) ≡ unnumbered (answered_core r k))
+    (λ j. sym (ap (λ b. unnumbered (with_replies r (if b then with_end r k else (if is_work (first k.segments) then with_work r k else k)))) e
+    ∙ ap (λ b. unnumbered (with_replies r (if b then with_work r k else k))) f
+    ∙ ap (λ b. unnumbered (with_replies r (if b then record k { again = k.again ++ first k.segments } else record k { spoken = true }))) j))
+    (λ j. sym (ap (λ b. unnumbered (with_replies r (if b then with_end r k else (if is_work (first k.segments) then with_work r k else k)))) e
+    ∙ ap (λ b. unnumbered (with_replies r (if b then with_work r k else k))) f
+    ∙ ap (λ b. unnumbered (with_replies r (if b then record k { again = k.again ++ first k.segments } else record k { spoken = true }))) j)))
+    (λ f. sym (ap (λ b. unnumbered (with_replies r (if b then with_end r k else (if is_work (first k.segments) then with_work r k else k)))) e
+    ∙ ap (λ b. unnumbered (with_replies r (if b then with_work r k else k))) f)))
 
 -- ---- local answers
 
 pub settle_first : (name : List ℕ) (gs : List (List Command)) (k : Core) → is_local name k.standing (first gs) ≡ true
     → (settle_segments name (left_by (answered_locally name (first gs) k.standing).stopped gs)
-      (with_local (answered_locally name (first gs) k.standing) (left_by (answered_locally name (first gs) k.standing).stopped gs) k)).core
+    (with_local (answered_locally name (first gs) k.standing) (left_by (answered_locally name (first gs) k.standing).stopped gs) k)).core
     ≡ (settle_segments name gs k).core
 unfolding settle_segments
 settle_first name [] k e = absurd (true≢false (sym e))
@@ -130,7 +130,7 @@ settle_first name (g ∷ gs) k e =
     go : (b : Bool)
         → (settle_segments name (left_by b (g ∷ gs)) (with_local (answered_locally name g k.standing) (left_by b (g ∷ gs)) k)).core
         ≡ (if b then record { core = with_local (answered_locally name g k.standing) [] k; moved = (answered_locally name g k.standing).moved }
-          else moved_too (answered_locally name g k.standing).moved (settle_segments name gs (with_local (answered_locally name g k.standing) gs k))).core
+        else moved_too (answered_locally name g k.standing).moved (settle_segments name gs (with_local (answered_locally name g k.standing) gs k))).core
     go true = refl
     go false = refl
 
@@ -153,11 +153,11 @@ settle_unnumbered name (g ∷ gs) k =
         → (settle_segments name gs (unnumbered (with_local (answered_locally name g k.standing) gs k))).core
         ≡ unnumbered (settle_segments name gs (with_local (answered_locally name g k.standing) gs k)).core
         → (if b then (if s then record { core = with_local (answered_locally name g k.standing) [] (unnumbered k); moved = (answered_locally name g k.standing).moved }
-          else moved_too (answered_locally name g k.standing).moved (settle_segments name gs (with_local (answered_locally name g k.standing) gs (unnumbered k))))
-          else still (unnumbered k)).core
+        else moved_too (answered_locally name g k.standing).moved (settle_segments name gs (with_local (answered_locally name g k.standing) gs (unnumbered k))))
+        else still (unnumbered k)).core
         ≡ unnumbered (if b then (if s then record { core = with_local (answered_locally name g k.standing) [] k; moved = (answered_locally name g k.standing).moved }
-          else moved_too (answered_locally name g k.standing).moved (settle_segments name gs (with_local (answered_locally name g k.standing) gs k)))
-          else still k).core
+        else moved_too (answered_locally name g k.standing).moved (settle_segments name gs (with_local (answered_locally name g k.standing) gs k)))
+        else still k).core
     go true true h = refl
     go true false h = h
     go false s h = refl

@@ -94,20 +94,11 @@ pub(crate) fn sqlcard(
     requires { IsTrue (has_text card.now) }
     ensures { IfOk result (λ dss. dss ≡ last Object number (sqlcard_object typdef card.now)) }
 {
-    Ok(last(
-        Kind::Object,
-        number,
-        write_sqlcard(alloc, card, typdef)?,
-    ))
+    Ok(last(Kind::Object, number, write_sqlcard(alloc, card, typdef)?))
 }
 
 /// A reply message with its severity alone (DDM, volume 3, SVRCOD).
-pub(crate) fn message(
-    alloc: Global,
-    code: u16,
-    value: u16,
-    number: u16,
-) -> Result<Dss, NoMemory>
+pub(crate) fn message(alloc: Global, code: u16, value: u16, number: u16) -> Result<Dss, NoMemory>
     ensures { IfOk result (λ dss. dss ≡ last Reply number (canonical_object code (severity value))) }
 {
     Ok(last(

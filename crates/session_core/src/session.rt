@@ -198,7 +198,13 @@ impl SessionCore {
 
     /// In place of a chain a field comes that is none of it: it is answered SYNTAXRM (DDM, volume 3), and the session ends.
     #[tactic(auto, unfolding(plain_model::specs::Begun::begun))]
-    pub fn begin_fault(&mut self, rdb: &RdbName, place: u64, error: u8, number: u16) -> Result<Octets, NoMemory>
+    pub fn begin_fault(
+        &mut self,
+        rdb: &RdbName,
+        place: u64,
+        error: u8,
+        number: u16,
+    ) -> Result<Octets, NoMemory>
         ensures said { IfOk result (λ said. said ≡ (begun (characters_of rdb.now) (Fault place error number) self.old).said) }
         ensures core { OnOk result (self.new ≡ (begun (characters_of rdb.now) (Fault place error number) self.old).core) }
     {
@@ -405,7 +411,13 @@ impl SessionCore {
         ensures { OnOk result (self.new ≡ with_first (characters_of rdb.now) self.old) }
     {
         let commands = first_of(&self.segments, self.answered);
-        if answer_locally(self.alloc, rdb, commands, &mut self.standing, &mut self.kept)? {
+        if answer_locally(
+            self.alloc,
+            rdb,
+            commands,
+            &mut self.standing,
+            &mut self.kept,
+        )? {
             self.stop();
         } else {
             self.next();
@@ -478,7 +490,8 @@ impl SessionCore {
     {
         let number = self.first_number();
         self.kept.push(rolled_back(self.alloc, rdb, number)?)?;
-        self.kept.push(sqlcard(self.alloc, card, self.typdef, number)?)
+        self.kept
+            .push(sqlcard(self.alloc, card, self.typdef, number)?)
     }
 
     /// No member gives access: AGNPRMRM before the database was accessed, and else ABNUOWRM and SQLCARD (DDM, volume 3). The bytes of
@@ -495,7 +508,7 @@ impl SessionCore {
     /// Keeps what is told where no member gives access.
     fn put_last(&mut self, rdb: &RdbName) -> Result<(), NoMemory>
         ensures { OnOk result (self.new ≡ record self.old {
-          kept = self.old.kept ++ none_left_replies (characters_of rdb.now) self.old.standing.stage self.old
+          kept = self.old.kept ++ none_left_replies (characters_of rdb.now) self.old.standing.stage self.old;
         }) }
     {
         match self.standing.stage() {
@@ -514,8 +527,7 @@ impl SessionCore {
         ensures { OnOk result (self.new ≡ record self.old { kept = self.old.kept ++ message code value self.old }) }
     {
         let number = self.first_number();
-        self.kept
-            .push(message(self.alloc, code, value, number)?)
+        self.kept.push(message(self.alloc, code, value, number)?)
     }
 
     // ---- other ends

@@ -34,9 +34,7 @@ const UNKNOWN: [u8; 22] = [
 ];
 
 /// RDBCMM.
-const COMMIT: [u8; 10] = [
-    0x00, 0x0A, 0xD0, 0x01, 0x00, 0x01, 0x00, 0x04, 0x20, 0x0E,
-];
+const COMMIT: [u8; 10] = [0x00, 0x0A, 0xD0, 0x01, 0x00, 0x01, 0x00, 0x04, 0x20, 0x0E];
 
 /// PRCCNVRM.
 const NOT_ALLOWED: [u8; 16] = [
@@ -56,9 +54,7 @@ const LEVEL: [u8; 24] = [
 ];
 
 /// A DSS that is too short.
-const SHORT: [u8; 10] = [
-    0x00, 0x05, 0xD0, 0x01, 0x00, 0x01, 0x00, 0x04, 0x10, 0x41,
-];
+const SHORT: [u8; 10] = [0x00, 0x05, 0xD0, 0x01, 0x00, 0x01, 0x00, 0x04, 0x10, 0x41];
 
 /// SYNTAXRM to it.
 const SHORT_REPLY: [u8; 21] = [
@@ -67,9 +63,7 @@ const SHORT_REPLY: [u8; 21] = [
 ];
 
 /// ACCSEC without SECMEC.
-const NO_MECHANISM: [u8; 10] = [
-    0x00, 0x0A, 0xD0, 0x01, 0x00, 0x01, 0x00, 0x04, 0x10, 0x6D,
-];
+const NO_MECHANISM: [u8; 10] = [0x00, 0x0A, 0xD0, 0x01, 0x00, 0x01, 0x00, 0x04, 0x10, 0x6D];
 
 /// SYNTAXRM to it.
 const NO_MECHANISM_REPLY: [u8; 21] = [
@@ -130,14 +124,10 @@ const DATABASE: [u8; 45] = [
 ];
 
 /// SQLCARD of success.
-const SUCCESS: [u8; 5] = [
-    0x00, 0x05, 0x24, 0x08, 0xFF,
-];
+const SUCCESS: [u8; 5] = [0x00, 0x05, 0x24, 0x08, 0xFF];
 
 /// EXCSQLIMM.
-const INSERT: [u8; 10] = [
-    0x00, 0x0A, 0xD0, 0x01, 0x00, 0x01, 0x00, 0x04, 0x20, 0x0A,
-];
+const INSERT: [u8; 10] = [0x00, 0x0A, 0xD0, 0x01, 0x00, 0x01, 0x00, 0x04, 0x20, 0x0A];
 
 /// Its reply.
 const INSERTED: [u8; 11] = [
@@ -191,11 +181,13 @@ fn begin(alloc: Global, core: &mut SessionCore, bytes: &[u8]) -> Result<Octets, 
     incoming.feed(bytes)?;
     match incoming.next()? {
         Some(Reading::Chain(chain)) => Ok(core.begin_chain(&name()?, &chain)?),
-        Some(Reading::Fault {
-            place,
-            error,
-            number,
-        }) => Ok(core.begin_fault(&name()?, place, error, number)?),
+        Some(
+            Reading::Fault {
+                place,
+                error,
+                number,
+            },
+        ) => Ok(core.begin_fault(&name()?, place, error, number)?),
         Some(Reading::TooLong { number }) => Ok(core.begin_too_long(&name()?, number)?),
         None => Err("no chain".into()),
     }
@@ -306,7 +298,12 @@ fn ends_are_told(rt: HostRuntime) -> Result<(), Fail> {
     begin(rt.alloc(), &mut core, &INSERT)?;
     assert!(rt; core.close(LimitKind::Reply)?.as_slice() == LIMIT.as_slice());
     core.leave(true);
-    assert!(rt; core.end() == Some(CoreEnd::Limit { kind: LimitKind::Reply }));
+    assert!(rt;
+        core.end()
+            == Some(CoreEnd::Limit {
+                kind: LimitKind::Reply
+            })
+    );
     Ok(())
 }
 

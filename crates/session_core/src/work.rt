@@ -1,5 +1,4 @@
 ghost use Rattle.std.specs.Prelude.{◌≡◌, ◌++◌, if◌then◌else◌, IfOk, OnOk};
-
 ghost use Rattle.unit_segments.specs.Segment.{goes_on_a_run};
 ghost use Rattle.plain_model.specs.Answered.{fit, is_work, limit_of};
 ghost use Rattle.plain_model.specs.Core.{has_commit};
@@ -62,11 +61,7 @@ pub(crate) fn grown_again(
 }
 
 /// These commands, and then those. Their long bodies are shared.
-fn joined(
-    alloc: Global,
-    commands: &[Command],
-    others: &[Command],
-) -> Result<CommandList, NoMemory>
+fn joined(alloc: Global, commands: &[Command], others: &[Command]) -> Result<CommandList, NoMemory>
     ensures { IfOk result (λ all. all ≡ commands.now ++ others.now) }
 {
     let mut all = Sequence::new(alloc);

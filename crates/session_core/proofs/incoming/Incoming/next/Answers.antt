@@ -15,7 +15,7 @@ loop-placed-preserved c =
     let frames = c.loop-placed.self-inside.frames in
     let size : length c.in-Some.placed.dss.body + 6 ≤ most_chain_bytes = omega (arith, c.in-Some.ensures.within, c.loop-placed.invariant.limit) in
     let step : chain_step chain c.in-Some.placed ≡ Ok None =
-        subst (λ (o : Option (List Command)). chain_step chain c.in-Some.placed ≡ Ok o) c.in-Ok-None.field-0-is c.in-Ok-None.ensures.answer in
+    subst (λ (o : Option (List Command)). chain_step chain c.in-Some.placed ≡ Ok o) c.in-Ok-None.field-0-is c.in-Ok-None.ensures.answer in
     record {
       next =
           rw (c.in-Ok-None.ensures.after, c.in-Some.ensures.rest)
@@ -32,17 +32,18 @@ invariant_of-self c =
     let chain = c.loop-placed.self-inside.chains in
     let size : length c.in-Some.placed.dss.body + 6 ≤ most_chain_bytes = omega (arith, c.in-Some.ensures.within, c.loop-placed.invariant.limit) in
     let step : chain_step chain c.in-Some.placed ≡ Ok (Some c.in-Ok-Some.chain) =
-        subst (λ (o : Option (List Command)). chain_step chain c.in-Some.placed ≡ Ok o) c.in-Ok-Some.field-0-is c.in-Ok-Some.ensures.answer in
-    (ap (λ v. v.limit) c.in-Some.ensures.rest ∙ c.loop-placed.invariant.limit,
-    subst (λ (o : OpenChain). AllByRecursion IsCommand o.commands) (sym c.in-Ok-Some.ensures.after)
-    (goes_on_read chain c.in-Some.placed (Some c.in-Ok-Some.chain) step c.loop-placed.invariant.commands size))
+    subst (λ (o : Option (List Command)). chain_step chain c.in-Some.placed ≡ Ok o) c.in-Ok-Some.field-0-is c.in-Ok-Some.ensures.answer in (
+      ap (λ v. v.limit) c.in-Some.ensures.rest ∙ c.loop-placed.invariant.limit,
+      subst (λ (o : OpenChain). AllByRecursion IsCommand o.commands) (sym c.in-Ok-Some.ensures.after)
+          (goes_on_read chain c.in-Some.placed (Some c.in-Ok-Some.chain) step c.loop-placed.invariant.commands size),
+    )
 
 pub returns-in-Ok-Some-clause-commands : goal.returns-in-Ok-Some-clause-commands
 returns-in-Ok-Some-clause-commands c x e =
     let chain = c.loop-placed.self-inside.chains in
     let size : length c.in-Some.placed.dss.body + 6 ≤ most_chain_bytes = omega (arith, c.in-Some.ensures.within, c.loop-placed.invariant.limit) in
     let step : chain_step chain c.in-Some.placed ≡ Ok (Some c.in-Ok-Some.chain) =
-        subst (λ (o : Option (List Command)). chain_step chain c.in-Some.placed ≡ Ok o) c.in-Ok-Some.field-0-is c.in-Ok-Some.ensures.answer in
+    subst (λ (o : Option (List Command)). chain_step chain c.in-Some.placed ≡ Ok o) c.in-Ok-Some.field-0-is c.in-Ok-Some.ensures.answer in
     subst HasCommands (some_is e)
     (ends_read chain c.in-Some.placed c.in-Ok-Some.chain step c.loop-placed.invariant.commands size)
 
@@ -51,7 +52,7 @@ returns-in-Ok-Some-clause-left c =
     let chain = c.loop-placed.self-inside.chains in
     let frames = c.loop-placed.self-inside.frames in
     let step : chain_step chain c.in-Some.placed ≡ Ok (Some c.in-Ok-Some.chain) =
-        subst (λ (o : Option (List Command)). chain_step chain c.in-Some.placed ≡ Ok o) c.in-Ok-Some.field-0-is c.in-Ok-Some.ensures.answer in
+    subst (λ (o : Option (List Command)). chain_step chain c.in-Some.placed ≡ Ok o) c.in-Ok-Some.field-0-is c.in-Ok-Some.ensures.answer in
     left_so c.args.self.now frames c.take.new.self c.add.new.self _
     (sym c.loop-placed.invariant.next
     ∙ ends_so chain frames.whole frames.fault c.in-Some.placed c.in-Ok-Some.chain (sym c.in-Some.ensures.first) step)

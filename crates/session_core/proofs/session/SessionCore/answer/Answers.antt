@@ -15,13 +15,13 @@ returns-in_ok-settle-in-None-clause-said c =
     let k = c.args.self.now in
     let there : Core = answered_core c.args.stripped k in
     let settled_is : c.settle.new.self ≡ (settled name (unnumbered there)).core =
-        c.in_ok-settle-in-None.ensures ∙ ap (λ (j : Core). (settled name j).core) c.in_ok-take_answer.ensures.core in
+    c.in_ok-settle-in-None.ensures ∙ ap (λ (j : Core). (settled name j).core) c.in_ok-take_answer.ensures.core in
     let fault : register_fault c.args.stripped k ≡ None = sym c.in_ok-take_answer.ensures.fault ∙ c.in-None.is in
     IfOk-weaker c.finish.result _ _
     (λ said e. e
-      ∙ ap (λ (j : Core). (finished (still j)).said) settled_is
-      ∙ finished_said name there
-      ∙ ap (λ (f : Option RegisterFault). (answered_by name (number_in (first k.segments)) f there).said) (sym fault))
+    ∙ ap (λ (j : Core). (finished (still j)).said) settled_is
+    ∙ finished_said name there
+    ∙ ap (λ (f : Option RegisterFault). (answered_by name (number_in (first k.segments)) f there).said) (sym fault))
     c.finish.ensures.said
 
 pub returns-in_ok-settle-in-None-clause-core : goal.returns-in_ok-settle-in-None-clause-core
@@ -31,11 +31,11 @@ returns-in_ok-settle-in-None-clause-core c =
     let k = c.args.self.now in
     let there : Core = answered_core c.args.stripped k in
     let settled_is : c.settle.new.self ≡ (settled name (unnumbered there)).core =
-        c.in_ok-settle-in-None.ensures ∙ ap (λ (j : Core). (settled name j).core) c.in_ok-take_answer.ensures.core in
+    c.in_ok-settle-in-None.ensures ∙ ap (λ (j : Core). (settled name j).core) c.in_ok-take_answer.ensures.core in
     let fault : register_fault c.args.stripped k ≡ None = sym c.in_ok-take_answer.ensures.fault ∙ c.in-None.is in
     on_ok_weaker c.finish.result
     (λ e. e
-      ∙ ap (λ (j : Core). (finished (still j)).core) settled_is
-      ∙ finished_core name there
-      ∙ ap (λ (f : Option RegisterFault). unnumbered (answered_by name (number_in (first k.segments)) f there).core) (sym fault))
+    ∙ ap (λ (j : Core). (finished (still j)).core) settled_is
+    ∙ finished_core name there
+    ∙ ap (λ (f : Option RegisterFault). unnumbered (answered_by name (number_in (first k.segments)) f there).core) (sym fault))
     c.finish.ensures.core
