@@ -94,5 +94,6 @@ taken_in_pieces s p q e =
     let first : after_app p s ≡ record s { incoming = without_next (with_piece p s.incoming) } =
     ap (λ o. begun_by o (record s { incoming = without_next (with_piece p s.incoming) })) e in
     ap (after_app q) first
-    ∙ ap (λ (n : Next). begun_by n.reading (record s { incoming = without_next (with_piece q (without_next (with_piece p s.incoming))) })) (both_next s.incoming p q e)
+    ∙ ap (λ (n : Next). begun_by n.reading
+    (record s { incoming = without_next (with_piece q (without_next (with_piece p s.incoming))) })) (both_next s.incoming p q e)
     ∙ ap (λ (i : Incoming). begun_by (next_of (with_piece (p ++ q) s.incoming)).reading (record s { incoming = i })) (both_left s.incoming p q e)

@@ -1,5 +1,6 @@
 -- The commands of a chain that is read, and of its segments, are such as a chain can have.
-use Rattle.std.proofs.Common.{◌≡◌, ℕ, ◌+◌, ◌≤◌, Bool, true, false, if◌then◌else◌, List, [], ◌∷◌, ◌++◌, length, drop, Option, Some, None, Result, Ok, Err, refl, sym, ap, subst, ◌∙◌, arith}
+use Rattle.std.proofs.Common.{◌≡◌, ℕ, ◌+◌, ◌≤◌, Bool, true, false, if◌then◌else◌, List, [], ◌∷◌, ◌++◌, length, drop, Option, Some, None, Result, Ok}
+use Rattle.std.proofs.Common.{Err, refl, sym, ap, subst, ◌∙◌, arith}
 use Rattle.std.specs.Option.{option_or}
 use Rattle.std.specs.List.{AllByRecursion}
 use Rattle.std.proofs.lemmas.Bool.{cond_both}
@@ -9,7 +10,8 @@ use Rattle.unit_segments.specs.declared.command.Command.{Command}
 use Rattle.unit_segments.specs.declared.fault.ChainFault.{ChainFault}
 use Rattle.unit_segments.specs.Limit.{most_chain_bytes}
 use Rattle.unit_segments.specs.Command.{BodyFault, body_fault}
-use Rattle.unit_segments.specs.Chain.{OpenChain, no_chain, is_request, order_fault, count_fault, at_body, command_fault, dss_fault, command_of, with_object, with_dss, awaited_after, chain_after, chain_by, chain_step}
+use Rattle.unit_segments.specs.Chain.{OpenChain, no_chain, is_request, order_fault, count_fault, at_body, command_fault, dss_fault, command_of}
+use Rattle.unit_segments.specs.Chain.{with_object, with_dss, awaited_after, chain_after, chain_by, chain_step}
 use Rattle.unit_segments.specs.Segment.{segments_of}
 use Rattle.plain_model.specs.Group.{IsCommand}
 use Rattle.plain_model.proofs.Segments.{AreSegments, segments_cut}
@@ -59,7 +61,8 @@ all_with_object (c ∷ next ∷ commands) d all = (all.0, all_with_object (next 
 
 all_with_dss : (chain : OpenChain) (placed : Placed) → AllByRecursion IsCommand chain.commands → dss_fault chain placed ≡ None
     → length placed.dss.body + 6 ≤ most_chain_bytes → AllByRecursion IsCommand (with_dss chain.commands placed)
-all_with_dss chain placed all none size = cond_both (is_request placed.dss.kind) (chain.commands ++ command_of placed ∷ []) (with_object chain.commands placed.dss)
+all_with_dss chain placed all none size = cond_both (is_request placed.dss.kind)
+    (chain.commands ++ command_of placed ∷ []) (with_object chain.commands placed.dss)
     (AllByRecursion IsCommand)
     (λ e. all_and_one chain.commands (command_of placed) all (record {
       code = refl;

@@ -1,5 +1,6 @@
 -- Segments one after another, what runs again where that is nothing, and what an answer makes of the core.
-use Rattle.std.proofs.Common.{◌≡◌, ℕ, zero, suc, ◌+◌, ◌==◌, Bool, true, false, if◌then◌else◌, List, [], ◌∷◌, ◌++◌, drop, Option, Some, None, refl, sym, ap, subst, ◌∙◌, slice_get, add-one, true≢false}
+use Rattle.std.proofs.Common.{◌≡◌, ℕ, zero, suc, ◌+◌, ◌==◌, Bool, true, false, if◌then◌else◌, List, [], ◌∷◌, ◌++◌, drop, Option, Some, None, refl}
+use Rattle.std.proofs.Common.{sym, ap, subst, ◌∙◌, slice_get, add-one, true≢false}
 use Rattle.std.specs.List.{AllByRecursion}
 use Rattle.std.proofs.lemmas.Bool.{cond_both}
 use Rattle.dss_frame.specs.declared.dss.Dss.{Dss}
@@ -17,7 +18,8 @@ use Rattle.unit_segments.specs.Spelling.{chain_bytes}
 use Rattle.plain_model.specs.Standing.{Standing, after_secchk, after_accrdb, after_end}
 use Rattle.plain_model.specs.Group.{IsCommand}
 use Rattle.plain_model.specs.Local.{is_local, answered_locally}
-use Rattle.plain_model.specs.Core.{Core, Owed, Nothing, Rerouted, Unknown, Settled, first, others, first_number, still, moved_too, with_local, settle_by, settle_segments, settle_owed, settled, finish_by, finished}
+use Rattle.plain_model.specs.Core.{Core, Owed, Nothing, Rerouted, Unknown, Settled, first, others, first_number, still, moved_too, with_local}
+use Rattle.plain_model.specs.Core.{settle_by, settle_segments, settle_owed, settled, finish_by, finished}
 use Rattle.plain_model.specs.Answered.{fit, is_work, joins_again, with_work, with_end, with_replies, standing_after, unit_after, answered_core}
 use Rattle.plain_model.proofs.Staged.{isnt_work}
 use Rattle.session_core.specs.SeenAnswer.{left_by}
@@ -91,7 +93,9 @@ pub access_stands : (st : Standing) (g : List Command) (r : Stripped) → r.ende
     → standing_after st g r ≡ standing_by_access st g r.replies
 access_stands st [] r none = refl
 access_stands st (c ∷ cs) r none =
-    ap (λ b. if c.code == secchk then after_secchk st c r.replies else (if c.code == accrdb then after_accrdb st c r.replies else (if b then after_end st r.sets else st))) none
+    ap (λ b. if c.code == secchk then after_secchk st c r.replies
+    else (if c.code == accrdb then after_accrdb st c r.replies
+    else (if b then after_end st r.sets else st))) none
 
 -- the unit of work doesn't depend on where the session stands
 pub stands_then_left : (r : Stripped) (k : Core)
@@ -147,15 +151,20 @@ settle_unnumbered : (name : List ℕ) (gs : List (List Command)) (k : Core)
 unfolding settle_segments
 settle_unnumbered name [] k = refl
 settle_unnumbered name (g ∷ gs) k =
-    go (is_local name k.standing g) (answered_locally name g k.standing).stopped (settle_unnumbered name gs (with_local (answered_locally name g k.standing) gs k))
+    go (is_local name k.standing g) (answered_locally name g k.standing).stopped
+    (settle_unnumbered name gs (with_local (answered_locally name g k.standing) gs k))
   where
     go : (b s : Bool)
         → (settle_segments name gs (unnumbered (with_local (answered_locally name g k.standing) gs k))).core
         ≡ unnumbered (settle_segments name gs (with_local (answered_locally name g k.standing) gs k)).core
-        → (if b then (if s then record { core = with_local (answered_locally name g k.standing) [] (unnumbered k); moved = (answered_locally name g k.standing).moved }
+        → (if b
+        then (if s
+        then record { core = with_local (answered_locally name g k.standing) [] (unnumbered k); moved = (answered_locally name g k.standing).moved }
         else moved_too (answered_locally name g k.standing).moved (settle_segments name gs (with_local (answered_locally name g k.standing) gs (unnumbered k))))
         else still (unnumbered k)).core
-        ≡ unnumbered (if b then (if s then record { core = with_local (answered_locally name g k.standing) [] k; moved = (answered_locally name g k.standing).moved }
+        ≡ unnumbered (if b
+        then (if s
+        then record { core = with_local (answered_locally name g k.standing) [] k; moved = (answered_locally name g k.standing).moved }
         else moved_too (answered_locally name g k.standing).moved (settle_segments name gs (with_local (answered_locally name g k.standing) gs k)))
         else still k).core
     go true true h = refl

@@ -1,5 +1,6 @@
 -- The parameters of a command that is looked into are objects one after another, and those that it needs are there.
-use Rattle.std.proofs.Common.{◌≡◌, ℕ, ◌==◌, ◌-◌, ◌&&◌, Bool, true, false, if◌then◌else◌, List, length, Option, Some, None, is_some, Result, Ok, Err, refl, sym, ap, subst, ◌∙◌}
+use Rattle.std.proofs.Common.{◌≡◌, ℕ, ◌==◌, ◌-◌, ◌&&◌, Bool, true, false, if◌then◌else◌, List, length, Option, Some, None, is_some, Result, Ok, Err}
+use Rattle.std.proofs.Common.{refl, sym, ap, subst, ◌∙◌}
 use Rattle.ddm_objects.specs.declared.fault.ObjFault.{ObjFault}
 use Rattle.ddm_objects.specs.Objects.{Member, outer_of}
 use Rattle.ddm_objects.specs.Members.{members_of, first_with, IsMembers, found_or_fault, find_of}
@@ -10,7 +11,8 @@ use Rattle.access_handshake.specs.Parameter as given
 use Rattle.access_handshake.specs.Accsec.{has_number, has_secmec}
 use Rattle.access_handshake.specs.Rdbnam.{has_rdbnam}
 use Rattle.unit_segments.specs.declared.command.Command.{Command}
-use Rattle.unit_segments.specs.Command.{BodyFault, code_by, code_of, data_by, data_of, is_looked_into, params_fault, body_fault_by, body_fault, has_needed, has_two_bytes, has}
+use Rattle.unit_segments.specs.Command.{BodyFault, code_by, code_of, data_by, data_of, is_looked_into, params_fault, body_fault_by, body_fault}
+use Rattle.unit_segments.specs.Command.{has_needed, has_two_bytes, has}
 use Rattle.plain_model.specs.Group.{IsCommand}
 
 -- what is known of the parameters of a command with this code point
@@ -23,7 +25,8 @@ params_needed : (offset code : ℕ) (params : List ℕ) (fault : Option ObjFault
 params_needed offset code params (Some f) is e = absurd cc
 params_needed offset code params None is e = record { members = is; there = go (has_needed code params) refl e }
   where
-    go : (b : Bool) → has_needed code params ≡ b → if◌then◌else◌ {A = Option BodyFault} b None (Some (record { offset = 0; err = 0x0E })) ≡ None → has_needed code params ≡ true
+    go : (b : Bool) → has_needed code params ≡ b
+        → if◌then◌else◌ {A = Option BodyFault} b None (Some (record { offset = 0; err = 0x0E })) ≡ None → has_needed code params ≡ true
     go true is e = is
     go false is e = absurd cc
 
@@ -32,13 +35,15 @@ by_outer : (body : List ℕ) (outer : Result Member ObjFault) → is_looked_into
 by_outer body (Err fault) looked e = absurd cc
 by_outer body (Ok object) looked e =
     params_needed (length body - length object.bytes) object.code object.bytes (members_of object.bytes).fault refl
-    (sym (ap (λ b. if◌then◌else◌ {A = Option BodyFault} b (params_fault (length body - length object.bytes) object.code object.bytes (members_of object.bytes).fault) None) looked) ∙ e)
+    (sym (ap (λ b. if◌then◌else◌ {A = Option BodyFault} b
+    (params_fault (length body - length object.bytes) object.code object.bytes (members_of object.bytes).fault) None) looked) ∙ e)
 
 body_needed : (body : List ℕ) → is_looked_into (class_of (code_of body)) ≡ true → body_fault body ≡ None → Needed (code_of body) (data_of body)
 unfolding body_fault
 body_needed body looked e = by_outer body (outer_of body) looked e
 
-pub needed : (command : Command) (code : ℕ) → IsCommand command → command.code ≡ code → is_looked_into (class_of code) ≡ true → Needed code (data_of command.body)
+pub needed : (command : Command) (code : ℕ) → IsCommand command → command.code ≡ code → is_looked_into (class_of code) ≡ true
+    → Needed code (data_of command.body)
 needed command code is e looked =
     let same : code_of command.body ≡ code = sym is.code ∙ e in
     subst (λ n. Needed n (data_of command.body)) same

@@ -1,6 +1,7 @@
 -- How many bytes the canonical spelling of a DSS has, and replies as one chain.
 use Rattle.std.proofs.Common.{◌≡◌, ℕ, zero, suc, ◌+◌, ◌*◌, ◌-◌, ◌≤◌, ◌<◌, List, [], ◌∷◌, ◌++◌, length, take, drop, refl, sym, ap, ◌∙◌, arith, flat_map}
-use Rattle.std.proofs.Common.{length-append, length-drop, Bool, true, false, if◌then◌else◌, Option, Some, None, is_none, nat_le, nat_lt, subst, leb-true, leb-false, zero-add}
+use Rattle.std.proofs.Common.{length-append, length-drop, Bool, true, false, if◌then◌else◌, Option, Some, None, is_none, nat_le, nat_lt, subst}
+use Rattle.std.proofs.Common.{leb-true, leb-false, zero-add}
 use Rattle.std.proofs.lemmas.Bool.{lt-ltb, le-ltb}
 use Rattle.std.proofs.lemmas.List.{length-take}
 use Rattle.dss_frame.specs.declared.dss.Dss.{Dss}

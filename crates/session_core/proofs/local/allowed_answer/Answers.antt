@@ -12,7 +12,8 @@ use Rattle.session_core.proofs.local.allowed_answer.Goals as goal
 pub answer_excsat-requires-clause-sound : goal.answer_excsat-requires-clause-sound
 unfolding class_of
 answer_excsat-requires-clause-sound c =
-    subst IsMembers (sym (c.data_of-params.ensures.data ∙ ap data_of c.as_slice.ensures)) (needed c.args.command.now excsat c.requires c.in-4161.is refl).members
+    subst IsMembers (sym (c.data_of-params.ensures.data ∙ ap data_of c.as_slice.ensures))
+    (needed c.args.command.now excsat c.requires c.in-4161.is refl).members
 
 pub answer_accsec-requires : goal.answer_accsec-requires
 unfolding class_of

@@ -7,7 +7,8 @@ use Rattle.session_core.proofs.incoming.Incoming.next.Given as goal
 
 abbrev pub invariant-loop-placed : goal.invariant-loop-placed
 invariant-loop-placed l = record {
-  next : next_in l.self-inside.chains l.self-inside.frames.whole l.self-inside.frames.fault ≡ next_in l.fn.self.chain l.fn.self.frames.whole l.fn.self.frames.fault;
+  next : next_in l.self-inside.chains l.self-inside.frames.whole l.self-inside.frames.fault
+      ≡ next_in l.fn.self.chain l.fn.self.frames.whole l.fn.self.frames.fault;
   frames : record l.self-inside.frames { whole = l.fn.self.frames.whole } ≡ l.fn.self.frames;
   commands : AllByRecursion IsCommand l.self-inside.chains.commands;
   limit : l.self-inside.frames.limit ≡ most_chain_bytes;
