@@ -4,7 +4,7 @@ ghost use Rattle.plain_model.specs.Core.{first_number};
 ghost use Rattle.session_core.specs.Seen.{seen_kind, seen_end, seen_owed};
 ghost use Rattle.session_core.specs.SeenReading.{seen_reading, HasCommands};
 ghost use Rattle.gateway_session.specs.Session.{new_session, uncounted, need, need_ended, need_going, need_by_talk, is_released, end_of, mark_by_held};
-ghost use Rattle.gateway_session.specs.Session.{sending_by_held, number_of};
+ghost use Rattle.gateway_session.specs.Session.{sending_by_held, number_of, no_tries};
 ghost use Rattle.gateway_session.specs.Steps.{after_lost, going_on, set_out, says, begin_next, begun_with, after_app, after_said, after_app_end};
 ghost use Rattle.gateway_session.specs.Steps.{after_lend, holding, with_none_left, with_limit, after_dialled, after_given, after_sent, after_back};
 ghost use Rattle.gateway_session.specs.Steps.{got_on, talked_on, with_accepted, with_release, with_whole, with_answered, untried};
@@ -76,10 +76,7 @@ impl Running {
             core: SessionCore::new(alloc),
             incoming: Incoming::new(alloc),
             held: None,
-            tries: Tries {
-                tried: Tried::none(),
-                fresh: false,
-            },
+            tries: no_tries(),
             unasked: Unasked {
                 list: None,
                 loss: None,
@@ -318,7 +315,7 @@ impl Running {
 
     /// What the application's bytes go on with comes into work.
     fn begin(&mut self, reading: Reading) -> Result<(), NoMemory>
-        requires { HasCommands reading }
+        requires commands { HasCommands reading }
         requires said { self.old.to_say ≡ [] }
         ensures session { OnOk result (self.new ≡ uncounted (begun_with (seen_reading reading) self.old)) }
         ensures err { OnErr result (KeepsSaying self.old self.new) }
@@ -607,10 +604,17 @@ impl Running {
     fn forget_tries(&mut self)
         ensures { self.new ≡ untried self.old }
     {
-        self.tries = Tries {
-            tried: Tried::none(),
-            fresh: false,
-        };
+        self.tries = no_tries();
+    }
+}
+
+/// Nothing was tried.
+fn no_tries() -> Tries
+    ensures { result ≡ no_tries }
+{
+    Tries {
+        tried: Tried::none(),
+        fresh: false,
     }
 }
 
