@@ -8,12 +8,10 @@ command -v rt >/dev/null || { echo "frames.sh: the toolchain's command rt isn't 
 folder=$(mktemp -d)
 trap 'rm -rf "$folder"' EXIT
 
-# The crates that the program stands on, without what was built of them before.
+# The crates that the program stands on, with what was proved of them before.
+mkdir "$folder/crates"
 for crate in link_ends dss_frame; do
-    mkdir -p "$folder/crates/$crate"
-    for part in src specs proofs; do
-        if [ -d "crates/$crate/$part" ]; then cp -R "crates/$crate/$part" "$folder/crates/$crate/"; fi
-    done
+    cp -a "crates/$crate" "$folder/crates/"
     grep "^$crate:" crates.txt >>"$folder/crates.txt"
 done
 # The program, whose files end in .rt only there: rt ci lets a file that ends so stand in a crate's src alone.
@@ -25,6 +23,7 @@ echo 'frames: link_ends dss_frame' >>"$folder/crates.txt"
 
 # `rt run` builds with LLVM's optimization. What it says of the proof and the build goes to its standard error.
 cd "$folder/crates/frames"
+echo "frames.sh: proving and building the program; this takes some minutes" >&2
 if ! rt run >first 2>log </dev/null; then
     tail -n 20 log >&2
     exit 1

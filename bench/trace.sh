@@ -1,6 +1,7 @@
 #!/usr/bin/env bash
 # Times `trace` against `cat` on the same captures, in one run, and prints the times and their ratio. Each time is the best
-# of several.
+# of several, without that of an empty capture: a program takes some milliseconds to start. `cat` gets the capture 16 times,
+# since it takes hardly longer than that for one.
 set -eu
 cd "$(dirname "$0")/.."
 tries=${1:-7}
@@ -9,21 +10,21 @@ program=crates/drda_gateway/out/drda_gateway
 folder=$(mktemp -d)
 trap 'rm -rf "$folder"' EXIT
 
-# The bytes of so many chains of EXCSAT, in lines of so many bytes each.
-excsats() { # CHAINS BYTES
-    awk -v chains="$1" 'BEGIN { for (i = 0; i < chains; i++) printf "000AD001000100041041" }' \
-        | fold -w $(($2 * 2)) | sed 's/^/> /'
+excsat=000AD001000100041041
+excsatrd=000AD003000100041443
+
+# So many MiB of a capture: the bytes of one side, which are this DSS over and over, in lines of so many bytes each.
+lines() { # MARK DSS MIB BYTES
+    local bytes=$4 size=$(($3 * 1048576))
+    # a byte is two digits, and a line has three characters more
+    awk -v dss="$2" -v count=$((size / (2 * bytes + 3) * bytes / 10)) 'BEGIN { for (i = 0; i < count; i++) printf dss }' \
+        | fold -w $((bytes * 2)) | sed "s/^/$1 /"
     echo
 }
 
-# As many chains as the longest capture has room for, in lines of so many bytes: a byte is two digits, and a line three more.
-longest() { # BYTES
-    echo $(((16777216 - 8) / (2 * $1 + 3) * $1 / 10))
-}
-
-# So many chains of EXCSAT, each with its reply of 10 bytes.
+# So many chains of EXCSAT, each with its reply.
 answered() { # CHAINS
-    awk -v chains="$1" 'BEGIN { for (i = 0; i < chains; i++) print "> 000AD001000100041041\n< 000AD003000100041443" }'
+    awk -v chains="$1" -v lines="> $excsat\n< $excsatrd" 'BEGIN { for (i = 0; i < chains; i++) print lines }'
 }
 
 # One chain of 4,096 commands, and so many replies to its last one.
@@ -45,24 +46,35 @@ best() {
     echo "$least"
 }
 
-row() {
-    local name=$1 file=$2 bytes traced copied
+row() { # NAME
+    local file=$folder/capture bytes traced copied
     bytes=$(stat -c %s "$file")
-    traced=$(best "$file" "$program" trace)
-    copied=$(best "$file" cat)
-    awk -v n="$name" -v b="$bytes" -v p="$traced" -v c="$copied" \
-        'BEGIN { printf "%-32s %9d bytes  trace %8.1f ms  cat %6.1f ms  ratio %6.1f  %5.2f ns a byte\n", n, b, p / 1000, c / 1000, p / c, p * 1000 / b }'
+    traced=$(($(best "$file" "$program" trace) - trace_start))
+    # shellcheck disable=SC2046 # a word for each copy
+    copied=$((($(best /dev/null cat $(yes "$file" | head -n 16)) - cat_start) / 16))
+    awk -v n="$1" -v b="$bytes" -v p="$traced" -v c="$copied" \
+        'BEGIN { printf "%-28s %9d bytes  trace %8.1f ms  cat %6.2f ms  ratio %6.1f  %5.2f ns a byte\n", n, b, p / 1000, c / 1000, p / c, p * 1000 / b }'
 }
 
-for bytes in 1 100 100000; do
-    excsats "$(longest "$bytes")" "$bytes" >"$folder/capture"
-    row "16 MiB, lines of $bytes bytes" "$folder/capture"
+: >"$folder/capture"
+trace_start=$(best "$folder/capture" "$program" trace)
+cat_start=$(best /dev/null cat "$folder/capture")
+for mark in '>' '<'; do
+    if [ "$mark" = '>' ]; then dss=$excsat; else dss=$excsatrd; fi
+    for mib in 4 8 16; do
+        lines "$mark" "$dss" "$mib" 1 >"$folder/capture"
+        row "$mark, lines of 1 byte"
+    done
+    for bytes in 100 100000; do
+        lines "$mark" "$dss" 16 "$bytes" >"$folder/capture"
+        row "$mark, lines of $bytes bytes"
+    done
 done
 for chains in 80000 320000; do
     answered "$chains" >"$folder/capture"
-    row "$chains answered chains" "$folder/capture"
+    row "$chains answered chains"
 done
 for replies in 80000 320000; do
     replies "$replies" >"$folder/capture"
-    row "$replies replies to 4096" "$folder/capture"
+    row "$replies replies to 4096"
 done

@@ -5,5 +5,6 @@ pub mod Replay
 pub mod Following
 pub mod Headline
 pub mod UserLemmas
+pub mod Commanding
 pub mod Playing
 pub mod Tracing

@@ -1,8 +1,5 @@
 -- What a run of trace has read and written, put together.
-use Rattle.std.proofs.Common.{◌≡◌, ◌<◌, ◌≤◌, ◌⊎◌, ℕ, List, ◌++◌, Bool, true, Option, Some, Result}
-use Rattle.std.proofs.Common.{Ok, Err, cond, length, sym, subst, ap, ◌∙◌, refl, arith, ⊎_elim, inl}
-use Rattle.std.proofs.lemmas.Bool.{cases_lt}
-use Rattle.std.proofs.lemmas.List.{length-append}
+use Rattle.std.proofs.Common.{◌≡◌, ◌<◌, ◌≤◌, ℕ, List, Bool, Some, Result, Ok, Err, cond, length, sym, subst, ap, ◌∙◌}
 use Rattle.link_ends.specs.Source.{SourceState}
 use Rattle.link_ends.specs.Sink.{SinkState}
 use Rattle.hex_lines.specs.Lines.{most_bytes}
@@ -12,10 +9,9 @@ use Rattle.drda_trace.specs.declared.trace.TraceFault.TheVariants.{Refused}
 use Rattle.drda_trace.specs.Answers.{Reads}
 use Rattle.drda_trace.specs.Trace.{trace_of, traced_by}
 use Rattle.drda_trace.proofs.Capturing.{capture_of-long}
-use Rattle.drda_gateway.specs.Ends.{WasRead, WasReadUp, Took, BrokeOff}
-use Rattle.drda_gateway.specs.Trace.{WasTraced, BegunTrace}
-use Rattle.drda_gateway.proofs.Ends.{to_end}
-use Rattle.drda_gateway.proofs.Playing.{IsPart, part_by}
+use Rattle.drda_gateway.specs.Ends.{WasReadUp, Took, BrokeOff}
+use Rattle.drda_gateway.specs.Trace.{WasTraced, BegunTrace, traced_text}
+use Rattle.drda_gateway.proofs.Commanding.{fits, wrote_all, wrote_some, all_told, all_read, not_both}
 
 trace_of-long : (text : List ℕ) → most_bytes < length text → trace_of text ≡ Err 0
 unfolding trace_of
@@ -23,13 +19,12 @@ trace_of-long text long = ap traced_by (capture_of-long text long)
 
 -- a text that is a capture isn't too long
 capture_fits : (text : List ℕ) (traced : Traced) → trace_of text ≡ Ok traced → length text ≤ most_bytes
-capture_fits text traced e =
-    ⊎_elim (λ (long : most_bytes < length text). let refused = trace_of-long text long in
-    absurd (cc)) (λ (fits : length text ≤ most_bytes). fits) (cases_lt most_bytes (length text))
+capture_fits text traced e = fits trace_of text traced 0 (λ long. trace_of-long text long) e
 
 abbrev traced_is : Traced → Result Traced ℕ
 traced_is traced = Ok traced
 
+-- the text that is traced is the one that was read
 of_text : (text said : List ℕ) (traced : Traced) → said ≡ text → Reads (Ok traced) (trace_of said) → trace_of text ≡ Ok traced
 of_text text said traced same reads = sym (ap trace_of same) ∙ reads
 
@@ -39,12 +34,8 @@ pub was_traced : (whole : Bool) (source source_now : SourceState) (sink sink_now
 was_traced whole source source_now sink sink_now text said shown traced read same reads e verdict took =
     let is_capture = of_text text said traced same reads in
     record {
-      text = text;
-      traced = traced;
-      read = to_end source source_now text (capture_fits text traced is_capture) read;
-      is_capture = is_capture;
+      wrote = wrote_all trace_of traced_text source source_now sink sink_now text shown traced (capture_fits text traced is_capture) read is_capture e took;
       verdict = verdict;
-      took = subst (λ (t : List ℕ). Took sink sink_now t) e took;
     }
 
 pub trace_begun : (source source_now : SourceState) (sink sink_now : SinkState) (text said shown : List ℕ) (traced : Traced) →
@@ -52,13 +43,7 @@ pub trace_begun : (source source_now : SourceState) (sink sink_now : SinkState) 
     BrokeOff sink sink_now shown → BegunTrace source source_now sink sink_now
 trace_begun source source_now sink sink_now text said shown traced read same reads e begun =
     let is_capture = of_text text said traced same reads in
-    record {
-      text = text;
-      traced = traced;
-      read = to_end source source_now text (capture_fits text traced is_capture) read;
-      is_capture = is_capture;
-      begun = subst (λ (t : List ℕ). BrokeOff sink sink_now t) e begun;
-    }
+    wrote_some trace_of traced_text source source_now sink sink_now text shown traced (capture_fits text traced is_capture) read is_capture e begun
 
 pub refused : (text said : List ℕ) (fault : TraceFault) (line : ℕ) → said ≡ text → fault ≡ Refused line → Reads {A = Traced} (Err fault) (trace_of said) →
     trace_of text ≡ Err line
@@ -66,35 +51,28 @@ refused text said fault line same is reads =
     let now : Reads {A = Traced} (Err (Refused line)) (trace_of said) = subst (λ (f : TraceFault). Reads {A = Traced} (Err f) (trace_of said)) is reads in
     sym (ap trace_of same) ∙ now
 
--- ---- a source that tells its bytes
-
 -- a text that was told and is traced is the one that was read
 pub same_trace : (source source_now : SourceState) (told text said : List ℕ) (traced of_told : Traced) → source.left ≡ Some told →
     trace_of told ≡ Ok of_told → WasReadUp source source_now text → said ≡ text → Reads (Ok traced) (trace_of said) → of_told ≡ traced
 same_trace source source_now told text said traced of_told tells is read same reads =
     let is_capture = of_text text said traced same reads in
-    let part : IsPart told text = part_by source source_now told text tells read in
-    let both : traced_is of_told ≡ traced_is traced = sym is ∙ ap trace_of (part.whole (capture_fits text traced is_capture)) ∙ is_capture in
+    let all = all_told source source_now told text tells read (capture_fits text traced is_capture) in
+    let both : traced_is of_told ≡ traced_is traced = sym is ∙ ap trace_of all ∙ is_capture in
     cc
 
 -- it isn't refused
 pub never_refused : (source source_now : SourceState) (told text : List ℕ) (of_told : Traced) (line : ℕ) → source.left ≡ Some told →
     trace_of told ≡ Ok of_told → WasReadUp source source_now text → trace_of text ≡ Err line → ⊥
 never_refused source source_now told text of_told line tells is read is_refused =
-    let part : IsPart told text = part_by source source_now told text tells read in
-    let fits : length told ≤ most_bytes = capture_fits told of_told is in
-    let within : length text ≤ most_bytes = omega (arith, ap length part.parts, length-append text part.rest, fits) in
-    let clash : trace_of told ≡ Err line = ap trace_of (part.whole within) ∙ is_refused in
-    cc
+    not_both trace_of told text of_told line (all_read source source_now told text tells read (capture_fits told of_told is)) is is_refused
 
 -- and one that is none isn't traced
 pub never_traced : (source source_now : SourceState) (told text said : List ℕ) (traced : Traced) (line : ℕ) → source.left ≡ Some told →
     trace_of told ≡ Err line → WasReadUp source source_now text → said ≡ text → Reads (Ok traced) (trace_of said) → ⊥
-never_traced source source_now told text said traced line tells is read same reads =
+never_traced source source_now told text said traced line tells is_refused read same reads =
     let is_capture = of_text text said traced same reads in
-    let part : IsPart told text = part_by source source_now told text tells read in
-    let clash : trace_of told ≡ Ok traced = ap trace_of (part.whole (capture_fits text traced is_capture)) ∙ is_capture in
-    cc
+    not_both trace_of text told traced line (sym (all_told source source_now told text tells read (capture_fits text traced is_capture))) is_capture
+    is_refused
 
 -- the status of a text that was taken
 pub status_of : (whole : Bool) (of_told traced : Traced) (status : ℕ) → of_told ≡ traced → traced.whole ≡ whole → status ≡ cond whole 0 6 →

@@ -1,5 +1,5 @@
 -- What each status of play says. No standard speaks of it.
-use Rattle.std.specs.Prelude.{ℕ, List, [], ◌∷◌, ◌++◌, ◌≡◌, Result, Ok, Err, true, codes}
+use Rattle.std.specs.Prelude.{ℕ, List, [], ◌∷◌, ◌++◌, ◌≡◌, Result, Ok, Err, codes}
 use Rattle.std.specs.Fmt.{decimal}
 use Rattle.drda_gateway.specs.declared.script.ScriptWhy.{ScriptWhy}
 use Rattle.drda_gateway.specs.declared.script.ScriptWhy.TheVariants.{Word, Order, Field, Long}
@@ -10,7 +10,7 @@ use Rattle.link_ends.specs.Sink.{SinkState}
 use Rattle.drda_gateway.specs.Refusal.{Refusal}
 use Rattle.drda_gateway.specs.ScriptText.{ScriptText}
 use Rattle.drda_gateway.specs.Script.{script_of}
-use Rattle.drda_gateway.specs.Ends.{WasRead, WasReadUp, Took, BrokeOff, Offered}
+use Rattle.drda_gateway.specs.Command.{WroteAll, WroteSome, WroteRefusal}
 use Rattle.drda_gateway.specs.World.{world_of}
 use Rattle.drda_gateway.specs.Report.{report_of}
 use Rattle.hex_lines.specs.Lines.{line_end}
@@ -32,34 +32,23 @@ why_word Long = codes "long"
 abbrev pub refusal_text : Refusal → List ℕ
 refusal_text refusal = codes "script refused: line " ++ (decimal refusal.line ++ (codes " " ++ (why_word refusal.why ++ line_end)))
 
+-- what is shown of a script: the report of its world
+abbrev pub script_report : ScriptText → List ℕ
+script_report script = report_of (world_of script.lines)
+
 -- The report of the script that a text is, or why it is refused; nothing is said where memory ran out.
 abbrev pub Reports : Result (List ℕ) ScriptFault → List ℕ → Type 0
-Reports (Ok report) text = (script : ScriptText) × (script_of text ≡ Ok script) × (report ≡ report_of (world_of script.lines))
+Reports (Ok report) text = (script : ScriptText) × (script_of text ≡ Ok script) × (report ≡ script_report script)
 Reports (Err (Refused line why)) text = script_of text ≡ Err (record { line = line; why = why })
 Reports (Err NoMemory) text = Unit {0}
 
--- The source was read to its end, and the sink took the whole report of the script that it gave. Each application of
--- that script was sent what a dedicated session sends.
+-- The whole report of a script was written, and each application of the script was sent what a dedicated session sends.
 pub record Played (source source_now : SourceState) (sink sink_now : SinkState) : Type 0 where
-  pub text : List ℕ
-  pub script : ScriptText
-  pub read : WasRead true source source_now text
-  pub is_script : script_of text ≡ Ok script
-  pub took : Took sink sink_now (report_of (world_of script.lines))
-  pub dedicated : AreDedicated (world_of script.lines)
+  pub wrote : WroteAll script_of script_report source source_now sink sink_now
+  pub dedicated : AreDedicated (world_of wrote.said.lines)
 
--- The source gave a script that is refused, read to its end or past the longest script, and the sink was offered why.
-pub record RefusedScript (source source_now : SourceState) (sink sink_now : SinkState) : Type 0 where
-  pub text : List ℕ
-  pub refusal : Refusal
-  pub read : WasReadUp source source_now text
-  pub is_refused : script_of text ≡ Err refusal
-  pub told : Offered sink sink_now (refusal_text refusal)
+abbrev pub RefusedScript : SourceState → SourceState → SinkState → SinkState → Type 0
+RefusedScript source source_now sink sink_now = WroteRefusal script_of refusal_text source source_now sink sink_now
 
--- The source was read to its end, and the sink took fewer bytes than the report has of the script that it gave.
-pub record BegunReport (source source_now : SourceState) (sink sink_now : SinkState) : Type 0 where
-  pub text : List ℕ
-  pub script : ScriptText
-  pub read : WasRead true source source_now text
-  pub is_script : script_of text ≡ Ok script
-  pub begun : BrokeOff sink sink_now (report_of (world_of script.lines))
+abbrev pub BegunReport : SourceState → SourceState → SinkState → SinkState → Type 0
+BegunReport source source_now sink sink_now = WroteSome script_of script_report source source_now sink sink_now

@@ -56,7 +56,12 @@ fn shows_each_line(rt: HostRuntime) -> Result<(), Fail> {
             "> 000AD05100010004200A000AD0530001000412340006D0030001\n< 000BD003000100052408FF\n",
             "chain 1\nrequest 0001 EXCSQLIMM 4\nobject 0001 1234 4\nobject 0001 - 0\nreply 0001 SQLCARD 5\nwhole\n",
         ),
-        // triplets: of QRYDSC, of an object with FDODSC, and of a reply with FDODSC
+        // a command and a reply that have no name
+        (
+            "> 000AD00100010004FFFF\n< 000AD00300010004FFFF\n",
+            "chain 1\nrequest 0001 FFFF 4\nreply 0001 FFFF 4\nwhole\n",
+        ),
+        // triplets: of QRYDSC, of a reply with FDODSC, and of an object with FDODSC
         (
             "> 000AD00100010004200C\n< 000AD043000100042205\n< 000CD00300010006241A0270\n",
             "chain 1\nrequest 0001 OPNQRY 4\nreply 0001 OPNQRYRM 4\nreply 0001 QRYDSC 6\ntriplet 2 70\nwhole\n",
@@ -72,6 +77,10 @@ fn shows_each_line(rt: HostRuntime) -> Result<(), Fail> {
         (
             "> 000AD00100010004200C\n< 000ED00300010008241A02700101\n",
             "chain 1\nrequest 0001 OPNQRY 4\nreply 0001 QRYDSC 8\ntriplet 2 70\ntriplet fault\nnot whole\n",
+        ),
+        (
+            "> 000AD00100010004200C\n< 000BD00300010005241A03\n",
+            "chain 1\nrequest 0001 OPNQRY 4\nreply 0001 QRYDSC 5\ntriplet fault\nnot whole\n",
         ),
         // numbers: none of the chain's, and one that falls
         (
@@ -107,6 +116,7 @@ fn shows_each_line(rt: HostRuntime) -> Result<(), Fail> {
         ("> 00\n", "rest > 1\nnot whole\n"),
         ("> 000AD04100010004104100\n", "rest > 11\nnot whole\n"),
         ("< 000AD04300010004144300\n", "rest < 11\nnot whole\n"),
+        ("> 00\n< 000A\n", "rest > 1\nrest < 2\nnot whole\n"),
     ];
     for (capture, lines) in rows {
         assert!(rt; shows(alloc, capture, lines)?, "{capture}");
@@ -134,6 +144,20 @@ fn counts_from_the_beginning(rt: HostRuntime) -> Result<(), Fail> {
         let lines = format!(in alloc; "{GREETED}{end}")?;
         assert!(rt; shows(alloc, capture.as_str(), lines.as_str())?, "{more}");
     }
+    Ok(())
+}
+
+/// A chain of a command more than one may have: the fault of a limit stands where that command begins.
+#[test]
+fn shows_a_chain_past_its_limit(rt: HostRuntime) -> Result<(), Fail> {
+    let alloc = rt.alloc();
+    let mut capture = String::new(alloc);
+    for _ in 0..4096 {
+        capture.push_str("> 000AD041000100041041\n")?;
+    }
+    assert!(rt; shows(alloc, capture.as_str(), "rest > 40960\nnot whole\n")?);
+    capture.push_str(EXCSAT)?;
+    assert!(rt; shows(alloc, capture.as_str(), "fault > 40960 04\nnot whole\n")?);
     Ok(())
 }
 

@@ -10,7 +10,7 @@ use Rattle.unit_segments.proofs.ReadChains.{chains_step, chains_end}
 use Rattle.plain_model.specs.Group.{Meaning}
 use Rattle.member_core.specs.Conversation.{ConversationState, Member, unread, after_chain, after_chains, closed_or_open, closing_reply, settled_by, settled}
 use Rattle.dss_frame.specs.declared.fault.StreamFault.{StreamFault}
-use Rattle.member_core.specs.Steps.{member, with_whole, stopped, with_chain, after_dss_by, after_dss}
+use Rattle.member_core.specs.Steps.{member, with_whole, stopped, after_dss_by, after_dss}
 
 -- with this reader, and this chain begun
 abbrev pub moved : {S U : Type 0} → View → OpenChain → Member S U → Member S U

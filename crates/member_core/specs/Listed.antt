@@ -1,5 +1,5 @@
 -- The list of members that a member tells where it gives access. DRDA, volume 3, ACCRDBRM, SRVLST.
-use Rattle.std.specs.Prelude.{ℕ, ◌==◌, Bool, not, ◌&&◌, nat_le, if◌then◌else◌, ◌++◌, length}
+use Rattle.std.specs.Prelude.{◌==◌, Bool, not, ◌&&◌, nat_le, if◌then◌else◌, ◌++◌, length}
 use Rattle.dss_frame.specs.declared.dss.Dss.{Dss}
 use Rattle.ddm_objects.specs.Objects.{canonical_object}
 use Rattle.ddm_codepoints.specs.CodePoint.{accrdbrm}

@@ -2,11 +2,9 @@
 -- statement is done, and answers every other command PRCCNVRM. No standard speaks of it: it is this project's own.
 use Rattle.std.specs.Prelude.{ℕ, ◌==◌, if◌then◌else◌, List, [], ◌∷◌}
 use Rattle.dss_frame.specs.declared.dss.Dss.{Dss}
-use Rattle.dss_frame.specs.declared.dss.Kind.{Kind}
 use Rattle.dss_frame.specs.declared.dss.Kind.TheVariants.{Reply, Object}
 use Rattle.ddm_codepoints.specs.CodePoint.{accrdb, excsqlimm}
 use Rattle.reply_texts.specs.Closing.{last}
-use Rattle.unit_segments.specs.declared.command.Command.{Command}
 use Rattle.plain_model.specs.Group.{Meaning, Values}
 
 -- ACCRDBRM with SVRCOD 0, PRDID GRP01010, QTDSQL370 and CCSIDSBC 37: DDM, volume 3, ACCRDBRM

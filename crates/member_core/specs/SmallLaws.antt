@@ -1,7 +1,6 @@
 -- The small group keeps the laws of groups. No standard speaks of it: this is this project's own.
-use Rattle.std.proofs.Common.{◌≡◌, ◌≢◌, ◌≤◌, ℕ, Bool, true, false, List, [], ◌∷◌, map, Option, Some, None, is_some, refl, sym, ap, ◌∙◌, subst, arith, cond, eqb}
+use Rattle.std.proofs.Common.{◌≡◌, ℕ, Bool, true, false, List, [], ◌∷◌, refl, sym, ap, ◌∙◌, cond, eqb}
 use Rattle.std.proofs.lemmas.Bool.{false≢true, leb-true}
-use Rattle.std.specs.List.{AllByRecursion}
 use Rattle.dss_frame.specs.declared.dss.Dss.{Dss}
 use Rattle.ddm_objects.specs.Objects.{extent_at, object_at, first_object}
 use Rattle.ddm_objects.specs.Members.{members_within}
@@ -9,7 +8,7 @@ use Rattle.ddm_codepoints.specs.declared.typdef.TypDef.{TypDef}
 use Rattle.ddm_codepoints.specs.Character.{ebcdic_of, ascii_of}
 use Rattle.ddm_codepoints.specs.TypDef.{typdef_of}
 use Rattle.access_handshake.specs.Parameter.{parameter}
-use Rattle.ddm_codepoints.specs.CodePoint.{excsat, accrdb, excsqlimm, accrdbrm}
+use Rattle.ddm_codepoints.specs.CodePoint.{excsat, accrdb, excsqlimm}
 use Rattle.ddm_codepoints.specs.CodeClass.{class_of}
 use Rattle.unit_segments.specs.declared.command.Command.{Command}
 use Rattle.unit_segments.specs.Command.{ends_unit}
@@ -17,7 +16,7 @@ use Rattle.access_handshake.specs.Access.{hello_object}
 use Rattle.unit_segments.specs.Release.{asked}
 use Rattle.unit_segments.specs.Handshake.{own_command, replayed}
 use Rattle.plain_model.specs.UnitEnd.{unasked, ends, says_committed, without_asked}
-use Rattle.plain_model.specs.Group.{Meaning, Values, Laws, led, answers, told_typdef, Leads, IsReplyTo, AreReplies, IsSame, DoesTheSame, renumbered}
+use Rattle.plain_model.specs.Group.{Laws, led, answers, told_typdef, Leads, IsReplyTo, AreReplies, IsSame, DoesTheSame, renumbered}
 use Rattle.dss_frame.specs.declared.dss.Kind.TheVariants.{Reply, Object}
 use Rattle.reply_texts.specs.Closing.{last}
 use Rattle.member_core.specs.SmallGroup.{access_given, statement_done, not_allowed, small_reply, small, small_values}
@@ -53,9 +52,9 @@ reply_by is_accrdb is_statement number =
 
 is_reply_by : (a b : Bool) (c : Command) → IsReplyTo c (reply_by a b c.corr)
 unfolding extent_at object_at first_object members_within parameter typdef_of ebcdic_of ascii_of
-is_reply_by true b c = record { number = refl; kind = refl; readable = λ _. (leb-true 45 16777216 refl, refl) }
-is_reply_by false true c = record { number = refl; kind = refl; readable = λ e. absurd (false≢true e) }
-is_reply_by false false c = record { number = refl; kind = refl; readable = λ e. absurd (false≢true e) }
+is_reply_by true b c = record { number = refl; kind = refl; readable = λ _. (leb-true 45 16777216 refl, refl); end_fits = λ e. absurd (false≢true e) }
+is_reply_by false true c = record { number = refl; kind = refl; readable = λ e. absurd (false≢true e); end_fits = λ e. absurd (false≢true e) }
+is_reply_by false false c = record { number = refl; kind = refl; readable = λ e. absurd (false≢true e); end_fits = λ e. absurd (false≢true e) }
 
 abbrev is_nil : List Dss → Bool
 is_nil [] = true
@@ -131,10 +130,11 @@ small_laws {S} = record {
     same_by s c d (asked c) (asked d) same (asked_reply c) (asked_numbered d),
   );
   released = λ st s u c a b i e f g h j. (refl, refl);
-  held = λ st s u c a b i e f g h j. tt;
+  held = λ st s u c a b i e f g h. tt;
   greeted = λ typ mechanism. leads_all S mechanism (own_command excsat hello_object ∷ []) typ;
   led_back = λ name typ st are. leads_all S st.access.secmec (replayed name st.stage st.access st.log) typ;
-  at_base = λ st. tt;
+  unset_base = λ st e. tt;
+  at_base = λ st u is. tt;
   admitted = λ st s u c a b i e f g. tt;
   not_admitted = λ st s u c a b i e f g. refl;
   let_in = λ st s u c a b i e f g. refl;

@@ -1,6 +1,6 @@
 -- How a conversation takes what it has read, one DSS and one command at a time. No standard speaks of it: this is this
 -- project's own.
-use Rattle.std.specs.Prelude.{List, [], Option, Some, None, Result, Ok, Err}
+use Rattle.std.specs.Prelude.{List, Option, Some, None, Result, Ok, Err}
 use Rattle.dss_frame.specs.declared.dss.Dss.{Dss}
 use Rattle.dss_frame.specs.declared.dss.Placed.{Placed}
 use Rattle.dss_frame.specs.declared.fault.StreamFault.{StreamFault}

@@ -1,4 +1,4 @@
-mod Keys
-mod Parts
-mod Read
-mod Spelled
+pub mod Keys
+pub mod Parts
+pub mod Read
+pub mod Spelled

@@ -1,14 +1,17 @@
--- What local answers, and a chain that is finished, leave of a core.
-use Rattle.std.proofs.Common.{◌≡◌, ℕ, suc, Bool, true, false, if◌then◌else◌, List, [], ◌∷◌, ◌++◌, Option, Some, None, ap, sym, refl, subst, ◌∙◌}
+-- What local answers, a chain that is finished, and a loss leave of a core.
+use Rattle.std.proofs.Common.{◌≡◌, ℕ, suc, ◌||◌, Bool, true, false, not, if◌then◌else◌, List, [], ◌∷◌, ◌++◌, Option, Some, None, ap, sym, refl, subst, ◌∙◌}
 use Rattle.std.proofs.lemmas.Bool.{cond_both}
 use Rattle.std.specs.List.{AllByRecursion}
+use Rattle.dss_frame.specs.declared.dss.Dss.{Dss}
 use Rattle.unit_segments.specs.declared.command.Command.{Command}
 use Rattle.unit_segments.specs.declared.stripped.Stripped.{Stripped}
 use Rattle.unit_segments.specs.declared.registers.RegisterFault.{RegisterFault}
+use Rattle.plain_model.specs.Standing.{Standing}
 use Rattle.plain_model.specs.Group.{IsCommand}
 use Rattle.plain_model.specs.Local.{Locally, is_local, answered_locally}
 use Rattle.plain_model.specs.Core.{Core, Owed, Nothing, Rerouted, Unknown, End, AppEnded, AppFault, Refused, NoMember, Limit, Settled, first, others}
 use Rattle.plain_model.specs.Core.{still, moved_too, with_local, settle_by, settle_segments, settle_owed, settled, finish_by, finished}
+use Rattle.plain_model.specs.Lost.{commit_sent, owes, lost_owing}
 use Rattle.plain_model.specs.Answered.{with_work, with_end, unit_after, answered_core, answered_by, left_after, is_work, joins_again}
 use Rattle.plain_model.proofs.Segments.{AreSegments, first_cut, others_cut}
 use Rattle.plain_model.proofs.Replies.{all_append}
@@ -34,12 +37,10 @@ pub record IsSameUnit (k j : Core) : Type 0 where
   pub typdef : j.typdef ≡ k.typdef
   pub segments : AreSegments k.segments → AreSegments j.segments
 
-pub itself : (k : Core) → IsSameUnit k k
-itself k = record { unit = refl; owed = refl; sent = refl; end = refl; pinned = refl; spoken = refl; again = refl; typdef = refl; segments = λ all. all }
-
 -- a core with other segments, replies and standing
-with_left : (answer : Locally) (left : List (List Command)) (k : Core) → (AreSegments k.segments → AreSegments left) → IsSameUnit k (with_local answer left k)
-with_left answer left k h = record {
+with_others : (k : Core) (standing : Standing) (left : List (List Command)) (kept : List Dss) → (AreSegments k.segments → AreSegments left)
+    → IsSameUnit k (record k { standing = standing; segments = left; kept = kept })
+with_others k standing left kept h = record {
   unit = refl;
   owed = refl;
   sent = refl;
@@ -50,6 +51,12 @@ with_left answer left k h = record {
   typdef = refl;
   segments = h;
 }
+
+pub itself : (k : Core) → IsSameUnit k k
+itself k = with_others k k.standing k.segments k.kept (λ all. all)
+
+with_left : (answer : Locally) (left : List (List Command)) (k : Core) → (AreSegments k.segments → AreSegments left) → IsSameUnit k (with_local answer left k)
+with_left answer left k h = with_others k answer.standing left (k.kept ++ answer.replies) h
 
 pub follows : (a b c : Core) → IsSameUnit a b → IsSameUnit b c → IsSameUnit a c
 follows a b c x y = record {
@@ -91,7 +98,7 @@ pub is_finished : (s : Settled) → IsSameUnit s.core (finished s).core
 is_finished s = go s.core.segments
   where
     go : (gs : List (List Command)) → IsSameUnit s.core (finish_by gs s.moved s.core).core
-    go [] = record { unit = refl; owed = refl; sent = refl; end = refl; pinned = refl; spoken = refl; again = refl; typdef = refl; segments = λ all. all }
+    go [] = with_others s.core s.core.standing s.core.segments [] (λ all. all)
     go (g ∷ gs) = itself s.core
 
 pub settled_finished : (name : List ℕ) (k : Core) → IsSameUnit k (finished (settled name k)).core
@@ -120,19 +127,23 @@ pub record IsSameChain (k j : Core) : Type 0 where
   pub kept : j.kept ≡ k.kept
   pub typdef : j.typdef ≡ k.typdef
 
+with_unit : (k : Core) (pinned spoken : Bool) (again : List Command) (unit : ℕ)
+    → IsSameChain k (record k { pinned = pinned; spoken = spoken; again = again; unit = unit })
+with_unit k pinned spoken again unit = record { segments = refl; owed = refl; end = refl; standing = refl; kept = refl; typdef = refl }
+
 worked : (r : Stripped) (k : Core) → IsSameChain k (with_work r k)
 worked r k = cond_both (joins_again r.replies k) _ _ (IsSameChain k)
-    (λ e. record { segments = refl; owed = refl; end = refl; standing = refl; kept = refl; typdef = refl })
-    (λ e. record { segments = refl; owed = refl; end = refl; standing = refl; kept = refl; typdef = refl })
+    (λ e. with_unit k k.pinned k.spoken (k.again ++ first k.segments) k.unit)
+    (λ e. with_unit k k.pinned true k.again k.unit)
 
 worked_unit : (r : Stripped) (k : Core) → (with_work r k).unit ≡ k.unit
 worked_unit r k = cond_both {A = Core} (joins_again r.replies k) _ _ (λ j. j.unit ≡ k.unit) (λ e. refl) (λ e. refl)
 
 pub after_unit : (r : Stripped) (k : Core) → IsSameChain k (unit_after r k)
 after_unit r k = cond_both r.ended (with_end r k) (if is_work (first k.segments) then with_work r k else k) (IsSameChain k)
-    (λ e. record { segments = refl; owed = refl; end = refl; standing = refl; kept = refl; typdef = refl })
+    (λ e. with_unit k (not r.granted) false [] (suc k.unit))
     (λ e. cond_both (is_work (first k.segments)) (with_work r k) k (IsSameChain k) (λ f. worked r k)
-    (λ f. record { segments = refl; owed = refl; end = refl; standing = refl; kept = refl; typdef = refl }))
+    (λ f. with_unit k k.pinned k.spoken k.again k.unit))
 
 pub unit_is : (r : Stripped) (k : Core) → (unit_after r k).unit ≡ (if r.ended then suc k.unit else k.unit)
 unit_is r k = go r.ended
@@ -182,3 +193,14 @@ answered_is name number None r k =
 answered_is name number (Some why) r k =
     let a = core_answered r k in
     record { unit = a.unit; owed = a.owed; sent = a.sent; bereft = λ e. refl; segments = λ all. tt; again = a.again }
+
+-- ---- the conversation is lost
+
+-- what holds whether a loss owes the one error, the other, or none
+pub where_lost : (P : Core → Type 0) (o : Owed) (k : Core) → (o ≡ Nothing → commit_sent k ≡ true → P (owes Unknown k))
+    → (o ≡ Nothing → (k.spoken || k.pinned) ≡ true → P (owes Rerouted k)) → P (record k { sent = false }) → P (lost_owing o k)
+where_lost P Nothing k unknown rerouted none = cond_both (commit_sent k) (owes Unknown k)
+    (if k.spoken || k.pinned then owes Rerouted k else record k { sent = false }) P (unknown refl)
+    (λ e. cond_both (k.spoken || k.pinned) (owes Rerouted k) (record k { sent = false }) P (rerouted refl) (λ f. none))
+where_lost P Rerouted k unknown rerouted none = none
+where_lost P Unknown k unknown rerouted none = none

@@ -1,19 +1,20 @@
 -- The values of all sessions stay the group's.
-use Rattle.std.proofs.Common.{ℕ, false, ◌||◌, if◌then◌else◌, List, [], ◌∷◌}
+use Rattle.std.proofs.Common.{ℕ, List, [], ◌∷◌}
 use Rattle.std.proofs.lemmas.Bool.{cond_both}
 use Rattle.std.specs.List.{AllByRecursion}
 use Rattle.unit_segments.specs.declared.command.Command.{Command}
 use Rattle.plain_model.specs.UnitEnd.{unasked}
 use Rattle.plain_model.specs.Group.{Meaning, Values, Laws, IsCommand, led}
-use Rattle.plain_model.specs.Core.{Core, Owed, Nothing, Rerouted, Unknown, After}
+use Rattle.plain_model.specs.Core.{Core, Owed, After}
 use Rattle.plain_model.specs.Begun.{begun}
 use Rattle.plain_model.specs.Answered.{answered}
-use Rattle.plain_model.specs.Lost.{commit_sent, owes, lost_owing, lost, accepted, none_left}
+use Rattle.plain_model.specs.Lost.{commit_sent, lost_owing, lost, accepted, none_left}
 use Rattle.plain_model.specs.Plain.{Session, InFlight, What, Begin, Sent, Run, Answer, Lose, RunLate, Accept, NoneLeft, Close, Leave, put}
 use Rattle.plain_model.specs.Plain.{segment_of, seen_of, to_run, data_run, data_after, with_after, run_first, run_late, lose, session_after}
 use Rattle.plain_model.proofs.Puts.{put_holds}
 use Rattle.plain_model.proofs.Segments.{first_cut}
 use Rattle.plain_model.proofs.Accounts.{Account}
+use Rattle.plain_model.proofs.Cores.{where_lost}
 use Rattle.plain_model.proofs.Facts.{Fact}
 use Rattle.plain_model.proofs.Loses.{left_segment}
 
@@ -71,13 +72,7 @@ late_kept {U = U} {m = m} {v = v} laws s n q u (c ∷ cs) sh un are all = record
 }
 
 lost_again_commands : (o : Owed) (k : Core) → AllByRecursion IsCommand k.again → AllByRecursion IsCommand (lost_owing o k).again
-lost_again_commands Nothing k all = cond_both {A = Core} (commit_sent k) (owes Unknown k)
-    (if k.spoken || k.pinned then owes Rerouted k else record k { sent = false }) (λ j. AllByRecursion IsCommand j.again)
-    (λ e. tt)
-    (λ e. cond_both {A = Core} (k.spoken || k.pinned) (owes Rerouted k) (record k { sent = false }) (λ j. AllByRecursion IsCommand j.again)
-    (λ t. tt) (λ t. all))
-lost_again_commands Rerouted k all = all
-lost_again_commands Unknown k all = all
+lost_again_commands o k all = where_lost (λ j. AllByRecursion IsCommand j.again) o k (λ n e. tt) (λ n e. tt) all
 
 lost_commands : (k : Core) → AllByRecursion IsCommand k.again → AllByRecursion IsCommand (lost k).again
 unfolding lost

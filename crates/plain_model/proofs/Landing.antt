@@ -13,7 +13,7 @@ use Rattle.unit_segments.specs.Command.{ends_unit}
 use Rattle.unit_segments.specs.Release.{asked}
 use Rattle.unit_segments.specs.Segment.{goes_on_a_run}
 use Rattle.unit_segments.specs.Spelling.{numbered}
-use Rattle.unit_segments.specs.Strip.{stripped, has_ended, is_granted, sets_of}
+use Rattle.unit_segments.specs.Strip.{stripped, has_ended, sets_of}
 use Rattle.plain_model.specs.Standing.{Standing, log_with, after_end, after_secchk, after_accrdb}
 use Rattle.plain_model.specs.UnitEnd.{unasked}
 use Rattle.plain_model.specs.Group.{Meaning, Values, Laws, IsCommand}
@@ -21,7 +21,6 @@ use Rattle.plain_model.specs.Local.{is_local}
 use Rattle.plain_model.specs.Core.{Core, first}
 use Rattle.plain_model.specs.Answered.{standing_after, is_work, register_fault}
 use Rattle.plain_model.specs.Plain.{left_to_run, seen}
-use Rattle.plain_model.specs.Succeeds.{EndsFit}
 use Rattle.plain_model.proofs.Segments.{IsSegment, drop_nothing, next_number, cons_nil, head_is}
 use Rattle.plain_model.proofs.Replies.{AreUpTo, one_more}
 use Rattle.plain_model.proofs.Staged.{isnt_work, work_accessed}
@@ -36,17 +35,19 @@ pub record IsAt {S U : Type 0} (m : Meaning S U) (v : Values S U) (k : Core) (ra
   pub idle : first k.segments ≡ [] → ran ≡ 0
   pub asked_up : AreUpTo ran asking
   pub rest : ran ≡ 0 → AtRest v k.standing u
+  pub base : AtRest v k.standing (m.base k.standing)
   pub work : is_work (first k.segments) ≡ true → k.standing.stage ≡ Accessed → Worked m v k.standing (first k.segments) part asking u
   pub access : is_work (first k.segments) ≡ false → ran ≢ 0 → Landed m v (standing_after k.standing (first k.segments) (seen (first k.segments) part asking)) u
 
 accessed_new : {st : Stage} → st ≡ Accessed → st ≡ New → ⊥
 accessed_new a b = cc
 
-pub at_start : {S U : Type 0} (m : Meaning S U) (v : Values S U) (k : Core) (u : U) → AtRest v k.standing u → IsAt m v k 0 [] [] u
-at_start m v k u rest = record {
+pub at_start : {S U : Type 0} {m : Meaning S U} {v : Values S U} → Laws m v → (k : Core) (u : U) → AtRest v k.standing u → IsAt m v k 0 [] [] u
+at_start {m = m} {v = v} laws k u rest = record {
   idle = λ e. refl;
   asked_up = tt;
   rest = λ e. rest;
+  base = λ new. laws.at_base k.standing u (rest new);
   work = λ w at. worked_start m v k.standing (first k.segments) u (rest (λ new. accessed_new at new));
   access = λ w ne. absurd (ne refl);
 }
@@ -86,16 +87,17 @@ access_run laws name st s u sh (d ∷ []) (suc ran) part asking c cs seg work fr
 access_run laws name st s u sh (d ∷ f ∷ g) ran part asking c cs seg work front e up rest =
     absurd (true≢false (sym (ap (λ b. b || ends_unit (class_of d.code)) seg.run.0) ∙ work))
 
-pub at_run : {S U : Type 0} {m : Meaning S U} {v : Values S U} → Laws m v → EndsFit m v → (name : List ℕ) (k : Core) (s : S) (u : U) → v.shared s
+pub at_run : {S U : Type 0} {m : Meaning S U} {v : Values S U} → Laws m v → (name : List ℕ) (k : Core) (s : S) (u : U) → v.shared s
     → v.unit u → (ran : ℕ) (part asking : List Dss) (c : Command) (cs : List Command) → IsSegment (first k.segments)
     → is_local name k.standing (first k.segments) ≡ false → IsCommand c → drop ran (numbered 1 (first k.segments)) ≡ c ∷ cs → AreUpTo ran part
     → IsAt m v k ran part asking u
     → IsAt m v k (suc ran) (part ++ m.replies s u (unasked c)) (asking ++ m.replies s u (asked c)) (m.unit_after s u (unasked c))
-at_run {m = m} laws fit name k s u sh un ran part asking c cs seg front is e up a = record {
+at_run {m = m} laws name k s u sh un ran part asking c cs seg front is e up a = record {
   idle = λ none. absurd (cons_nil (sym e ∙ ap (λ h. drop ran (numbered 1 h)) none ∙ drop_nothing ran 1));
   asked_up = one_more ran asking (m.replies s u (asked c)) a.asked_up (asked_replies_number laws s u sh un ran c is (next_number ran 1 g c cs e));
   rest = λ z. absurd (omega (arith, z));
-  work = λ w at. worked_run laws fit k.standing s u sh un at g ran part asking c cs seg w is e up a.asked_up (a.work w at);
+  base = a.base;
+  work = λ w at. worked_run laws k.standing s u sh un at g ran part asking c cs seg w is e up a.asked_up (a.work w at);
   access = λ w ne. access_run laws name k.standing s u sh g ran part (asking ++ m.replies s u (asked c)) c cs seg w front e up a.rest;
 }
   where
@@ -141,15 +143,8 @@ at_answer {m = m} {v = v} laws name k ran part asking u front up none fault a = 
     ended : (b : Bool) → has_ended g part ≡ b → is_work g ≡ true → k.standing.stage ≡ Accessed
         → AtRest v (if b then after_end k.standing r.sets else k.standing) u
     ended false e w at = λ new. (a.work w at).opened e
-    ended true e w at = granted (is_granted g asking) refl
-      where
-        sound : (log_with k.standing (sets_of g asking)).fault ≡ None
-        sound = sym (cond-true (has_ended g part) (log_with k.standing (sets_of g asking)).fault None e) ∙ fault
-
-        granted : (b : Bool) → is_granted g asking ≡ b → AtRest v (after_end k.standing r.sets) u
-        granted true f = λ new.
-            subst (v.stands (after_end k.standing r.sets)) (sym ((a.work w at).released e f sound)) (laws.at_base (after_end k.standing r.sets))
-        granted false f = λ new. (a.work w at).held e f sound
+    ended true e w at = λ new.
+        (a.work w at).held e (sym (cond-true (has_ended g part) (log_with k.standing (sets_of g asking)).fault None e) ∙ fault)
 
     by : (b : Bool) → is_work g ≡ b → AtRest v (standing_after k.standing g r) u
     by true w = subst (λ to. AtRest v to u) (sym (work_standing k.standing g r w))

@@ -20,7 +20,7 @@ use Rattle.plain_model.specs.Core.{settle_by, settle_segments, settle_owed, sett
 use Rattle.plain_model.specs.Begun.{Reading, Chain, Fault, TooLong, begun}
 use Rattle.plain_model.specs.Answered.{standing_after, is_work, with_work, with_end, unit_after, answered_core, register_fault, answered_by}
 use Rattle.plain_model.specs.Answered.{answered}
-use Rattle.plain_model.specs.Lost.{commit_sent, owes, lost_owing, lost, accepted, none_left, closed, left}
+use Rattle.plain_model.specs.Lost.{owes, lost_owing, lost, accepted, none_left, closed, left}
 use Rattle.plain_model.specs.Plain.{Session, State, Event, What, Begin, Sent, Run, Answer, Lose, RunLate, Accept, NoneLeft, Close, Leave, IsPossible}
 use Rattle.plain_model.specs.Plain.{ArePossible, new_session, start, plain, put, segment_of, seen_of, to_run, run_first, run_late, session_after}
 use Rattle.plain_model.specs.Plain.{after_event}
@@ -31,7 +31,7 @@ use Rattle.plain_model.proofs.Segments.{first_cut}
 use Rattle.plain_model.proofs.Replies.{none_zero}
 use Rattle.plain_model.proofs.Runs.{and_true}
 use Rattle.plain_model.proofs.Accounts.{Account, new_account}
-use Rattle.plain_model.proofs.Cores.{settled_finished, after_unit}
+use Rattle.plain_model.proofs.Cores.{settled_finished, after_unit, where_lost}
 use Rattle.plain_model.proofs.Facts.{Fact}
 use Rattle.plain_model.proofs.Answering.{seen_ended}
 use Rattle.plain_model.proofs.Keeps.{data_kept, values_kept}
@@ -174,15 +174,11 @@ or_either false b P e left right = right e
 
 lost_owing_done : (name : List ℕ) (o : Owed) (k : Core) → o ≡ k.owed → IsSound name k
     → (has_commit (first k.segments) ≡ true → is_work (first k.segments) ≡ true) → Done k → Done (lost_owing o k)
-lost_owing_done name Nothing k eo s works d = cond_both {A = Core} (commit_sent k) (owes Unknown k)
-    (if k.spoken || k.pinned then owes Rerouted k else record k { sent = false }) Done
-    (λ e. all_done k.standing.stage (owes Unknown k) (work_accessed name k.standing (first k.segments) (s.front (sym eo))
+lost_owing_done name o k eo s works d = where_lost Done o k
+    (λ n e. all_done k.standing.stage (owes Unknown k) (work_accessed name k.standing (first k.segments) (s.front (sym eo ∙ n))
     (works (and_true k.sent (has_commit (first k.segments)) e).1)))
-    (λ e. cond_both {A = Core} (k.spoken || k.pinned) (owes Rerouted k) (record k { sent = false }) Done
-    (λ t. all_done k.standing.stage (owes Rerouted k) (or_either k.spoken k.pinned (k.standing.stage ≡ Accessed) t d.spoken d.pinned))
-    (λ t. calm_done k d))
-lost_owing_done name Rerouted k eo s works d = calm_done k d
-lost_owing_done name Unknown k eo s works d = calm_done k d
+    (λ n e. all_done k.standing.stage (owes Rerouted k) (or_either k.spoken k.pinned (k.standing.stage ≡ Accessed) e d.spoken d.pinned))
+    (calm_done k d)
 
 pub lost_done : (name : List ℕ) (k : Core) → IsSound name k
     → (has_commit (first k.segments) ≡ true → is_work (first k.segments) ≡ true) → Done k → Done (lost k)
@@ -253,12 +249,7 @@ is_same {S} {U} {m = m} laws name k s t ss st all sound d = go k.again refl
         record { unit = both.0; replies = both.1 }
 
 pub lost_standing : (o : Owed) (k : Core) → (lost_owing o k).standing ≡ k.standing
-lost_standing Nothing k = cond_both {A = Core} (commit_sent k) (owes Unknown k)
-    (if k.spoken || k.pinned then owes Rerouted k else record k { sent = false }) (λ j. j.standing ≡ k.standing)
-    (λ e. refl) (λ e. cond_both {A = Core} (k.spoken || k.pinned) (owes Rerouted k) (record k { sent = false }) (λ j. j.standing ≡ k.standing)
-    (λ t. refl) (λ t. refl))
-lost_standing Rerouted k = refl
-lost_standing Unknown k = refl
+lost_standing o k = where_lost (λ j. j.standing ≡ k.standing) o k (λ n e. refl) (λ n e. refl) refl
 
 pub after : {S U : Type 0} {m : Meaning S U} {v : Values S U} → Laws m v → (name : List ℕ) (s : S) (q : Session U) (l : Account) (what : What)
     → v.shared s → IsPossible q what → Repeats name v q l → Repeats name v (session_after name m s q what) (account_after m s q what l)

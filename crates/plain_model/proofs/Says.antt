@@ -13,7 +13,7 @@ use Rattle.unit_segments.specs.Strip.{is_object_of, end_number, replies_to, end_
 use Rattle.unit_segments.specs.Strip.{sets_of, without_lists, given_back, replies_of}
 use Rattle.unit_segments.specs.Accepts.{is_admission, gives_admission, has_accrdbrm}
 use Rattle.plain_model.specs.UnitEnd.{end_of, ends, sets_in, without_asked}
-use Rattle.plain_model.specs.Succeeds.{EndFits}
+use Rattle.plain_model.specs.Group.{IsReplyTo}
 use Rattle.plain_model.proofs.Runs.{and_true}
 use Rattle.plain_model.proofs.Segments.{IsCut, is_end, ends_next}
 use Rattle.plain_model.proofs.Replies.{HaveNumber, AreUpTo, other_number, all_replies, none_beyond, replies_both}
@@ -92,10 +92,10 @@ no_enduowrm : (number : ℕ) (d : Dss) → answers number sqlstt d ≡ true → 
 no_enduowrm number d e =
     ap (λ n. n == enduowrm) (eqb-true _ sqlstt (and_true (d.corr == number) (is_object_of sqlstt d) e).1)
 
-still_ends : (number : ℕ) (after : Bool) (r : List Dss) → AllByRecursion EndFits r
+still_ends : (number : ℕ) (after : Bool) (c : Command) (r : List Dss) → AllByRecursion (IsReplyTo c) r
     → ends (map (λ m. without_lists m.reply) (filter (λ m. not m.is_set) (marked_from number after r))) ≡ ends r
-still_ends number after [] fit = refl
-still_ends number after (d ∷ r) fit = go (still_ends number (after || answers number sqlcard d) r fit.1) (after && answers number sqlstt d) refl
+still_ends number after c [] all = refl
+still_ends number after c (d ∷ r) all = go (still_ends number (after || answers number sqlcard d) c r all.1) (after && answers number sqlstt d) refl
   where
     rest : List Dss
     rest = map (λ m. without_lists m.reply) (filter (λ m. not m.is_set) (marked_from number (after || answers number sqlcard d) r))
@@ -107,13 +107,13 @@ still_ends number after (d ∷ r) fit = go (still_ends number (after || answers 
         same ∙ sym (some_found (is_object_of enduowrm) d r ∙ ap (λ b. b || ends r) (no_enduowrm number d (and_true after (answers number sqlstt d) e).1))
     go same false e =
         some_found (is_object_of enduowrm) (without_lists d) rest
-        ∙ ap (λ b. b || ends rest) (enduowrm_still d fit.0) ∙ ap (λ b. is_object_of enduowrm d || b) same
+        ∙ ap (λ b. b || ends rest) (enduowrm_still d all.0.end_fits) ∙ ap (λ b. is_object_of enduowrm d || b) same
         ∙ sym (some_found (is_object_of enduowrm) d r)
 
 -- where the rest of the replies is the same, the unit ended in both cases or in none
-pub ends_alike : (c : Command) (r t : List Dss) → AllByRecursion EndFits r → AllByRecursion EndFits t → without_asked c r ≡ without_asked c t
-    → ends r ≡ ends t
-ends_alike c r t fit fits e = sym (still_ends c.corr false r fit) ∙ ap ends e ∙ still_ends c.corr false t fits
+pub ends_alike : (c a b : Command) (r t : List Dss) → AllByRecursion (IsReplyTo a) r → AllByRecursion (IsReplyTo b) t
+    → without_asked c r ≡ without_asked c t → ends r ≡ ends t
+ends_alike c a b r t all alls e = sym (still_ends c.corr false a r all) ∙ ap ends e ∙ still_ends c.corr false b t alls
 
 -- ---- access
 

@@ -1,5 +1,5 @@
 -- The core of every session stays sound.
-use Rattle.std.proofs.Common.{◌≡◌, ℕ, ◌==◌, ◌&&◌, ◌||◌, not, true, false, if◌then◌else◌, List, [], ◌∷◌, ◌++◌, Option, Some, None, ap, sym, refl}
+use Rattle.std.proofs.Common.{◌≡◌, ℕ, ◌==◌, ◌&&◌, not, true, false, if◌then◌else◌, List, [], ◌∷◌, ◌++◌, Option, Some, None, ap, sym, refl}
 use Rattle.std.proofs.Common.{subst, ◌∙◌, true≢false, eqb-true}
 use Rattle.std.proofs.lemmas.Bool.{cond_both}
 use Rattle.std.specs.List.{AllByRecursion}
@@ -19,14 +19,14 @@ use Rattle.plain_model.specs.Core.{settle_segments, settle_owed, settled, finish
 use Rattle.plain_model.specs.Begun.{Reading, Chain, Fault, TooLong, begun}
 use Rattle.plain_model.specs.Answered.{fit, without_error, joins_again, with_work, with_end, is_work, unit_after, answered_core, answered_by}
 use Rattle.plain_model.specs.Answered.{register_fault, answered}
-use Rattle.plain_model.specs.Lost.{commit_sent, owes, lost_owing, lost, accepted, none_left, closed, left}
+use Rattle.plain_model.specs.Lost.{owes, lost_owing, lost, accepted, none_left, closed, left}
 use Rattle.plain_model.specs.Plain.{Session, State, Event, What, Begin, Sent, Run, Answer, Lose, RunLate, Accept, NoneLeft, Close, Leave, IsPossible}
 use Rattle.plain_model.specs.Plain.{ArePossible, seen_of, to_run, run_first, run_late, session_after, after_event, start, plain}
 use Rattle.plain_model.specs.Sound.{IsSound, EachCoreIsSound}
 use Rattle.plain_model.proofs.Puts.{put_holds}
 use Rattle.plain_model.proofs.Replies.{all_append}
 use Rattle.plain_model.proofs.Runs.{and_true}
-use Rattle.plain_model.proofs.Cores.{settled_finished, after_unit}
+use Rattle.plain_model.proofs.Cores.{settled_finished, after_unit, where_lost}
 
 -- ---- the front
 
@@ -189,18 +189,14 @@ calm_sound name k s = record {
 }
 
 lost_sound_owing : (name : List ℕ) (o : Owed) (k : Core) → IsSound name k → IsSound name (lost_owing o k)
-lost_sound_owing name Nothing k s = cond_both {A = Core} (commit_sent k) (owes Unknown k)
-    (if k.spoken || k.pinned then owes Rerouted k else record k { sent = false }) (IsSound name)
-    (λ e. owes_sound name Unknown k unknown) (λ e. cond_both {A = Core} (k.spoken || k.pinned) (owes Rerouted k) (record k { sent = false })
-    (IsSound name) (λ t. owes_sound name Rerouted k rerouted) (λ t. calm_sound name k s))
+lost_sound_owing name o k s = where_lost (IsSound name) o k (λ n e. owes_sound name Unknown k unknown)
+    (λ n e. owes_sound name Rerouted k rerouted) (calm_sound name k s)
   where
     unknown : Unknown ≡ Nothing → ⊥
     unknown e = cc
 
     rerouted : Rerouted ≡ Nothing → ⊥
     rerouted e = cc
-lost_sound_owing name Rerouted k s = calm_sound name k s
-lost_sound_owing name Unknown k s = calm_sound name k s
 
 lost_sound : (name : List ℕ) (k : Core) → IsSound name k → IsSound name (lost k)
 unfolding lost

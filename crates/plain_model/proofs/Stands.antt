@@ -32,7 +32,6 @@ use Rattle.plain_model.specs.Group.{Meaning, Values, Laws, IsCommand, IsReplyTo}
 use Rattle.plain_model.specs.Local.{Refuses, to_excsat, to_accsec, to_rdbnam, allowed_answer, local_answer}
 use Rattle.plain_model.specs.Answered.{standing_after, is_work}
 use Rattle.plain_model.specs.Plain.{seen}
-use Rattle.plain_model.specs.Succeeds.{EndsFit}
 use Rattle.plain_model.proofs.Segments.{IsSegment, IsCut, Closes, is_end, end_from, drop_nothing, next_number, not_end_next, cons_nil, head_is}
 use Rattle.plain_model.proofs.Replies.{HaveNumber, AreUpTo, none_beyond, none_zero, no_replies, replies_both}
 use Rattle.plain_model.proofs.Runs.{without_number}
@@ -142,11 +141,10 @@ passes c e f = pass_is (class_of c.code) (or_first (is_passed (class_of c.code))
 pub record Worked {S U : Type 0} (m : Meaning S U) (v : Values S U) (st : Standing) (g : List Command) (part asking : List Dss) (u : U) : Type 0 where
   -- while the unit of work hasn't ended the session stands where it stood
   pub opened : has_ended g part ≡ false → v.stands st u
-  -- after its end, where the registers say, at the base where release is granted
+  -- after its end it stands where the registers say, at the base where release is granted
   pub released : has_ended g part ≡ true → is_granted g asking ≡ true → (log_with st (sets_of g asking)).fault ≡ None
       → u ≡ m.base (after_end st (sets_of g asking))
-  pub held : has_ended g part ≡ true → is_granted g asking ≡ false → (log_with st (sets_of g asking)).fault ≡ None
-      → v.stands (after_end st (sets_of g asking)) u
+  pub held : has_ended g part ≡ true → (log_with st (sets_of g asking)).fault ≡ None → v.stands (after_end st (sets_of g asking)) u
 
 pub worked_start : {S U : Type 0} (m : Meaning S U) (v : Values S U) (st : Standing) (g : List Command) (u : U) → v.stands st u → Worked m v st g [] [] u
 worked_start m v st g u at = record { opened = λ e. at; released = λ e. absurd (true≢false (sym e)); held = λ e. absurd (true≢false (sym e)) }
@@ -155,11 +153,11 @@ not_released : (d : Option Dss) (code value : ℕ) → is_some d ≡ false → e
 not_released None code value e = refl
 not_released (Some d) code value e = absurd (true≢false e)
 
-pub worked_run : {S U : Type 0} {m : Meaning S U} {v : Values S U} → Laws m v → EndsFit m v → (st : Standing) (s : S) (u : U) → v.shared s → v.unit u
+pub worked_run : {S U : Type 0} {m : Meaning S U} {v : Values S U} → Laws m v → (st : Standing) (s : S) (u : U) → v.shared s → v.unit u
     → st.stage ≡ Accessed → (g : List Command) (ran : ℕ) (part asking : List Dss) (c : Command) (cs : List Command) → IsSegment g → is_work g ≡ true
     → IsCommand c → drop ran (numbered 1 g) ≡ c ∷ cs → AreUpTo ran part → AreUpTo ran asking → Worked m v st g part asking u
     → Worked m v st g (part ++ m.replies s u (unasked c)) (asking ++ m.replies s u (asked c)) (m.unit_after s u (unasked c))
-worked_run {S} {U} {m = m} {v = v} laws fit st s u sh un at g ran part asking c cs seg work is e up ups w = go (is_end c) refl
+worked_run {S} {U} {m = m} {v = v} laws st s u sh un at g ran part asking c cs seg work is e up ups w = go (is_end c) refl
   where
     r : List Dss
     r = m.replies s u (unasked c)
@@ -188,20 +186,20 @@ worked_run {S} {U} {m = m} {v = v} laws fit st s u sh un at g ran part asking c 
     }
     go true end =
         let last = end_is ran g c cs seg.cut e end in
-        let alike : ends a ≡ ends r = ends_alike c a r (fit s u c sh un is).1 (fit s u c sh un is).0 (laws.asking_same_replies s u c sh un is) in
+        let replies = laws.answered s u c sh un is in
+        let alike : ends a ≡ ends r =
+        ends_alike c (asked c) (unasked c) a r replies.1.each replies.0.each (laws.asking_same_replies s u c sh un is) in
         let ended : has_ended g (part ++ r) ≡ ends r = ap is_some (message_is ran g part r last up nr) in
         let granted : is_granted g (asking ++ a) ≡ releases a = ap (end_says _ _) (message_is ran g asking a last ups na) in
         let sets : sets_of g (asking ++ a) ≡ sets_in c a = sets_are_in ran g c asking a last (number ∙ omega arith) ups in
-        let same : releases a ≡ false → m.unit_after s u (asked c) ≡ m.unit_after s u (unasked c) = laws.asking_same_unit s u c sh un is in
         record {
           opened = λ f. let no : ends a ≡ false = alike ∙ sym ended ∙ f in
-              subst (v.stands st) (same (not_released (end_of a) _ _ no)) (laws.not_ended st s u c sh stood is at end no);
+              subst (v.stands st) (laws.asking_same_unit s u c sh un is (not_released (end_of a) _ _ no)) (laws.not_ended st s u c sh stood is at end no);
           released = λ f t fault. subst (λ ss. m.unit_after s u (unasked c) ≡ m.base (after_end st ss)) (sym sets)
               (laws.released st s u c sh stood is at end (alike ∙ sym ended ∙ f) (sym granted ∙ t)
               (ap (λ ss. (log_with st ss).fault) (sym sets) ∙ fault)).1;
-          held = λ f t fault. subst (λ ss. v.stands (after_end st ss) (m.unit_after s u (unasked c))) (sym sets)
-              (subst (v.stands (after_end st (sets_in c a))) (same (sym granted ∙ t))
-              (laws.held st s u c sh stood is at end (alike ∙ sym ended ∙ f) (sym granted ∙ t) (ap (λ ss. (log_with st ss).fault) (sym sets) ∙ fault)));
+          held = λ f fault. subst (λ ss. v.stands (after_end st ss) (m.unit_after s u (unasked c))) (sym sets)
+              (laws.held st s u c sh stood is at end (alike ∙ sym ended ∙ f) (ap (λ ss. (log_with st ss).fault) (sym sets) ∙ fault));
         }
 
 -- ---- commands of access
@@ -259,8 +257,8 @@ pub record Landed {S U : Type 0} (m : Meaning S U) (v : Values S U) (to : Standi
   pub stands : v.stands to u
   pub base : to.stage ≡ Accessed → u ≡ m.base to
 
-landed_base : {S U : Type 0} {m : Meaning S U} {v : Values S U} → Laws m v → (to : Standing) (u : U) → u ≡ m.base to → Landed m v to u
-landed_base {v = v} laws to u e = record { stands = subst (v.stands to) (sym e) (laws.at_base to); base = λ at. e }
+landed_base : {S U : Type 0} {m : Meaning S U} {v : Values S U} → Laws m v → (to : Standing) (u : U) → to.log ≡ [] → u ≡ m.base to → Landed m v to u
+landed_base {v = v} laws to u unset e = record { stands = subst (v.stands to) (sym e) (laws.unset_base to unset); base = λ at. e }
 
 secchk_other : (c : Command) → (c.code == secchk) ≡ true → is_end c ≡ false
 unfolding class_of
@@ -292,95 +290,96 @@ is_past Checked = false
 stage_apart : (a b : Stage) → is_past a ≡ true → is_past b ≡ false → a ≡ b → ⊥
 stage_apart a b e f g = true≢false (sym e ∙ ap is_past g ∙ f)
 
--- SECCHK alone
+-- ---- a command of access alone
+
+abbrev at_one : Command → Command
+at_one d = record d { corr = 1 }
+
+-- it asks for nothing, so that nothing is taken out of its replies
+record IsAlone {S U : Type 0} (m : Meaning S U) (s : S) (u : U) (d : Command) : Type 0 where
+  pub is : IsCommand (at_one d)
+  pub plain : unasked (at_one d) ≡ at_one d
+  pub back : replies_of (d ∷ []) (m.replies s u (at_one d)) ≡ map (given_back (d ∷ [])) (m.replies s u (at_one d))
+
+alone : {S U : Type 0} {m : Meaning S U} {v : Values S U} → Laws m v → (s : S) (u : U) → v.shared s → v.unit u → (d : Command) → is_end d ≡ false
+    → IsCommand d → IsAlone m s u d
+alone {m = m} laws s u sh un d other is =
+    let ok : IsCommand (at_one d) = record { code = is.code; sound = is.sound; size = is.size } in
+    let plain : unasked (at_one d) ≡ at_one d = passed_is (at_one d) other in
+    let r = m.replies s u (at_one d) in
+    let numbers : HaveNumber 1 r =
+    subst (λ (w : Command). HaveNumber 1 (m.replies s u w)) plain (replies_number laws s u sh un 0 (at_one d) ok refl) in
+    record {
+      is = ok;
+      plain = plain;
+      back = all_given_back (d ∷ []) r (numbered_others 0 (end_number (d ∷ [])) r (alone_end d other) numbers);
+    }
+
+abbrev LandsAlone : {S U : Type 0} → Meaning S U → Values S U → Standing → S → U → Command → List Dss → Type 0
+LandsAlone m v st s u d asking =
+    Landed m v (standing_after st (d ∷ []) (seen (d ∷ []) (m.replies s u (unasked (at_one d))) asking)) (m.unit_after s u (unasked (at_one d)))
+
+lands_alone : {S U : Type 0} (m : Meaning S U) (v : Values S U) (st to : Standing) (s : S) (u : U) (d : Command) (asking : List Dss)
+    → unasked (at_one d) ≡ at_one d → standing_after st (d ∷ []) (seen (d ∷ []) (m.replies s u (at_one d)) asking) ≡ to
+    → Landed m v to (m.unit_after s u (at_one d)) → LandsAlone m v st s u d asking
+lands_alone m v st to s u d asking plain leads landed =
+    subst (λ (w : Command). Landed m v (standing_after st (d ∷ []) (seen (d ∷ []) (m.replies s u w) asking)) (m.unit_after s u w)) (sym plain)
+    (subst (λ x. Landed m v x (m.unit_after s u (at_one d))) (sym leads) landed)
+
 pub secchk_run : {S U : Type 0} {m : Meaning S U} {v : Values S U} → Laws m v → (st : Standing) (s : S) (u : U) → v.shared s → v.stands st u
-    → st.stage ≡ Chosen → (d : Command) → (d.code == secchk) ≡ true → IsCommand d → (asking : List Dss)
-    → Landed m v (standing_after st (d ∷ []) (seen (d ∷ []) (m.replies s u (unasked (record d { corr = 1 }))) asking))
-    (m.unit_after s u (unasked (record d { corr = 1 })))
+    → st.stage ≡ Chosen → (d : Command) → (d.code == secchk) ≡ true → IsCommand d → (asking : List Dss) → LandsAlone m v st s u d asking
 unfolding stripped
 secchk_run {S} {U} {m = m} {v = v} laws st s u sh stood at d code is asking =
-    subst (λ (w : Command). Landed m v (standing_after st g (seen g (m.replies s u w) asking)) (m.unit_after s u w)) (sym plain)
-    (subst (λ to. Landed m v to (m.unit_after s u c)) (sym leads) (go (gives_admission r) refl))
+    lands_alone m v st (if gives_admission r then checked d.body st else attached) s u d asking a.plain leads (go (gives_admission r) refl)
   where
-    c : Command
-    c = record d { corr = 1 }
-
-    g : List Command
-    g = d ∷ []
-
-    plain : unasked c ≡ c
-    plain = passed_is c (secchk_other d code)
+    a : IsAlone m s u d
+    a = alone laws s u sh (laws.standing_unit st u stood) d (secchk_other d code) is
 
     r : List Dss
-    r = m.replies s u c
+    r = m.replies s u (at_one d)
 
-    numbers : HaveNumber 1 r
-    numbers = subst (λ (w : Command). HaveNumber 1 (m.replies s u w)) plain
-        (replies_number laws s u sh (laws.standing_unit st u stood) 0 c (record { code = is.code; sound = is.sound; size = is.size }) refl)
-
-    back : replies_of g r ≡ map (given_back g) r
-    back = all_given_back g r (numbered_others 0 (end_number g) r (alone_end d (secchk_other d code)) numbers)
-
-    leads : standing_after st g (seen g r asking) ≡ (if gives_admission r then checked d.body st else attached)
+    leads : standing_after st (d ∷ []) (seen (d ∷ []) r asking) ≡ (if gives_admission r then checked d.body st else attached)
     leads = cond-true (d.code == secchk) _ _ code
-        ∙ ap (λ (b : Bool). if b then checked d.body st else attached) (ap gives_admission back ∙ admission_same g r)
+        ∙ ap (λ (b : Bool). if b then checked d.body st else attached) (ap gives_admission a.back ∙ admission_same (d ∷ []) r)
 
-    go : (b : Bool) → gives_admission r ≡ b → Landed m v (if b then checked d.body st else attached) (m.unit_after s u c)
+    go : (b : Bool) → gives_admission r ≡ b → Landed m v (if b then checked d.body st else attached) (m.unit_after s u (at_one d))
     go true e = record {
-      stands = laws.admitted st s u c sh stood (record { code = is.code; sound = is.sound; size = is.size }) at (eqb-true d.code secchk code) e;
+      stands = laws.admitted st s u (at_one d) sh stood a.is at (eqb-true d.code secchk code) e;
       base = λ f. absurd (stage_apart Accessed Checked refl refl (sym f));
     }
-    go false e = landed_base laws attached (m.unit_after s u c)
-        (laws.not_admitted st s u c sh stood (record { code = is.code; sound = is.sound; size = is.size }) at (eqb-true d.code secchk code) e)
+    go false e =
+        landed_base laws attached (m.unit_after s u (at_one d)) refl (laws.not_admitted st s u (at_one d) sh stood a.is at (eqb-true d.code secchk code) e)
 
--- ACCRDB alone
 pub accrdb_run : {S U : Type 0} {m : Meaning S U} {v : Values S U} → Laws m v → (st : Standing) (s : S) (u : U) → v.shared s → v.stands st u
-    → st.stage ≡ Checked → (d : Command) → (d.code == accrdb) ≡ true → IsCommand d → (asking : List Dss)
-    → Landed m v (standing_after st (d ∷ []) (seen (d ∷ []) (m.replies s u (unasked (record d { corr = 1 }))) asking))
-    (m.unit_after s u (unasked (record d { corr = 1 })))
+    → st.stage ≡ Checked → (d : Command) → (d.code == accrdb) ≡ true → IsCommand d → (asking : List Dss) → LandsAlone m v st s u d asking
 unfolding stripped
 accrdb_run {S} {U} {m = m} {v = v} laws st s u sh stood at d code is asking =
-    subst (λ (w : Command). Landed m v (standing_after st g (seen g (m.replies s u w) asking)) (m.unit_after s u w)) (sym plain)
-    (subst (λ to. Landed m v to (m.unit_after s u c)) (sym leads) (go (has_accrdbrm r) refl))
+    lands_alone m v st (if has_accrdbrm r then accessed d.body st else st) s u d asking a.plain leads (go (has_accrdbrm r) refl)
   where
-    c : Command
-    c = record d { corr = 1 }
-
-    g : List Command
-    g = d ∷ []
-
-    ok : IsCommand c
-    ok = record { code = is.code; sound = is.sound; size = is.size }
-
-    plain : unasked c ≡ c
-    plain = passed_is c (accrdb_other d code)
-
-    r : List Dss
-    r = m.replies s u c
-
     un : v.unit u
     un = laws.standing_unit st u stood
 
-    numbers : HaveNumber 1 r
-    numbers = subst (λ (w : Command). HaveNumber 1 (m.replies s u w)) plain (replies_number laws s u sh un 0 c ok refl)
+    a : IsAlone m s u d
+    a = alone laws s u sh un d (accrdb_other d code) is
+
+    r : List Dss
+    r = m.replies s u (at_one d)
 
     sizes : AllByRecursion (λ d. is_object_of accrdbrm d ≡ true → length d.body ≤ most_reply_body) r
-    sizes = subst (λ (w : Command). AllByRecursion (λ d. is_object_of accrdbrm d ≡ true → length d.body ≤ most_reply_body) (m.replies s u w)) plain
-        (readable_size (unasked c) (m.replies s u (unasked c)) (laws.answered s u c sh un ok).0.each)
-
-    back : replies_of g r ≡ map (given_back g) r
-    back = all_given_back g r (numbered_others 0 (end_number g) r (alone_end d (accrdb_other d code)) numbers)
+    sizes = subst (λ (w : Command). AllByRecursion (λ d. is_object_of accrdbrm d ≡ true → length d.body ≤ most_reply_body) (m.replies s u w)) a.plain
+        (readable_size (unasked (at_one d)) (m.replies s u (unasked (at_one d))) (laws.answered s u (at_one d) sh un a.is).0.each)
 
     no_secchk : (d.code == secchk) ≡ false
     no_secchk = ap (λ n. n == secchk) (eqb-true d.code accrdb code)
 
-    leads : standing_after st g (seen g r asking) ≡ (if has_accrdbrm r then accessed d.body st else st)
+    leads : standing_after st (d ∷ []) (seen (d ∷ []) r asking) ≡ (if has_accrdbrm r then accessed d.body st else st)
     leads = cond-false (d.code == secchk) _ _ no_secchk ∙ cond-true (d.code == accrdb) _ _ code
-        ∙ ap (λ (b : Bool). if b then accessed d.body st else st) (ap has_accrdbrm back ∙ access_same g r sizes)
+        ∙ ap (λ (b : Bool). if b then accessed d.body st else st) (ap has_accrdbrm a.back ∙ access_same (d ∷ []) r sizes)
 
-    go : (b : Bool) → has_accrdbrm r ≡ b → Landed m v (if b then accessed d.body st else st) (m.unit_after s u c)
-    go true e = landed_base laws (accessed d.body st) (m.unit_after s u c) (laws.let_in st s u c sh stood ok at (eqb-true d.code accrdb code) e)
+    go : (b : Bool) → has_accrdbrm r ≡ b → Landed m v (if b then accessed d.body st else st) (m.unit_after s u (at_one d))
+    go true e = landed_base laws (accessed d.body st) (m.unit_after s u (at_one d)) refl
+        (laws.let_in st s u (at_one d) sh stood a.is at (eqb-true d.code accrdb code) e)
     go false e = record {
-      stands = laws.not_let_in st s u c sh stood ok at (eqb-true d.code accrdb code) e;
+      stands = laws.not_let_in st s u (at_one d) sh stood a.is at (eqb-true d.code accrdb code) e;
       base = λ f. absurd (stage_apart Accessed Checked refl refl (sym f ∙ at));
     }

@@ -1,16 +1,17 @@
 -- What is told of a loss, what stays in work, and how many commits there are.
 use Rattle.std.proofs.Common.{◌≡◌, inl, inr, ℕ, suc, ◌||◌, Bool, true, false, if◌then◌else◌, List, [], ◌∷◌, length, Option, Some, None, is_some, ap}
 use Rattle.std.proofs.Common.{sym, refl, ◌∙◌, arith, true≢false}
-use Rattle.std.proofs.lemmas.Bool.{cond_both, cond-false}
+use Rattle.std.proofs.lemmas.Bool.{cond-false}
 use Rattle.unit_segments.specs.declared.command.Command.{Command}
 use Rattle.unit_segments.specs.Strip.{has_ended, is_committed}
 use Rattle.plain_model.specs.Group.{Meaning}
-use Rattle.plain_model.specs.Core.{Core, Owed, Nothing, Rerouted, Unknown}
+use Rattle.plain_model.specs.Core.{Core, Owed, Rerouted, Unknown}
 use Rattle.plain_model.specs.Lost.{commit_sent, owes, lost_owing, lost}
 use Rattle.plain_model.specs.Plain.{Session, Begin, Sent, Run, Answer, Lose, RunLate, Accept, NoneLeft, Close, Leave, segment_of, to_run, run_first}
 use Rattle.plain_model.specs.Plain.{run_late, after_event}
 use Rattle.plain_model.specs.Told.{Outcome, Committed, RolledBack, Telling, UnitName, unit_before, told_by, committed_by, committed}
 use Rattle.plain_model.specs.InWork.{tells_loss, LossIsTold, StaysInWork, CanRunAgain, commit_events, AllAreCounted}
+use Rattle.plain_model.proofs.Cores.{where_lost}
 
 -- ---- what is told
 
@@ -59,12 +60,7 @@ late_segments m s n q u [] = refl
 late_segments m s n q u (c ∷ cs) = refl
 
 lost_segments_owing : (o : Owed) (k : Core) → (lost_owing o k).segments ≡ k.segments
-lost_segments_owing Nothing k = cond_both {A = Core} (commit_sent k) (owes Unknown k)
-    (if k.spoken || k.pinned then owes Rerouted k else record k { sent = false }) (λ j. j.segments ≡ k.segments)
-    (λ e. refl) (λ e. cond_both {A = Core} (k.spoken || k.pinned) (owes Rerouted k) (record k { sent = false }) (λ j. j.segments ≡ k.segments)
-    (λ t. refl) (λ t. refl))
-lost_segments_owing Rerouted k = refl
-lost_segments_owing Unknown k = refl
+lost_segments_owing o k = where_lost (λ j. j.segments ≡ k.segments) o k (λ n e. refl) (λ n e. refl) refl
 
 lost_segments : (k : Core) → (lost k).segments ≡ k.segments
 unfolding lost

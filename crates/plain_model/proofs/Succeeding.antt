@@ -23,7 +23,7 @@ use Rattle.plain_model.proofs.Replies.{AreUpTo}
 use Rattle.plain_model.proofs.Runs.{and_true}
 use Rattle.plain_model.proofs.Cores.{IsSameUnit, settled_finished}
 use Rattle.plain_model.proofs.Repeating.{Done, some_again}
-use Rattle.plain_model.proofs.Moves.{unmoved, accessed_unmoved}
+use Rattle.plain_model.proofs.Moves.{stands_now, accessed_unmoved}
 use Rattle.plain_model.proofs.Stands.{Serves, Checks, Opens, Works, serves}
 use Rattle.plain_model.proofs.Landing.{AtRest, IsAt, work_standing, nothing_up, nothing_ran}
 use Rattle.plain_model.proofs.Aheads.{IsAhead, IsLed, ahead_rest, joined, typdef_stays}
@@ -68,11 +68,11 @@ settled_rests {S} {U} {m = m} {v = v} laws name j u done r = go (finished (settl
 
     go : (b : Bool) → (finished (settled name j)).moved ≡ b → Rests m v k (if b then m.base k.standing else u)
     go true e = record {
-      rest = λ new. laws.at_base k.standing;
+      rest = λ new. laws.unset_base k.standing ((stands_now name j).unset e);
       led = λ sp pi at. nothing_led m v k.typdef k.standing k.again (m.base k.standing) (emptied e j.again refl) refl;
     }
     go false e =
-        let stays = unmoved name j e in
+        let stays = (stands_now name j).unmoved e in
         record {
           rest = subst (λ st. AtRest v st u) (sym stays) r.rest;
           led = λ sp pi at. led_with m v j.typdef k.typdef j.standing k.standing j.again k.again u u same.typdef stays same.again refl

@@ -8,7 +8,7 @@ use Rattle.dss_frame.specs.declared.dss.Dss.{Dss}
 use Rattle.ddm_codepoints.specs.declared.typdef.TypDef.{TypDef}
 use Rattle.ddm_codepoints.specs.declared.code_class.CodeClass.TheVariants.{Pass}
 use Rattle.ddm_codepoints.specs.CodeClass.{class_of}
-use Rattle.ddm_codepoints.specs.CodePoint.{excsat, secchk, accrdb, rdbcmm, excsqlset, accrdbrm}
+use Rattle.ddm_codepoints.specs.CodePoint.{excsat, secchk, accrdb, rdbcmm, excsqlset, accrdbrm, enduowrm}
 use Rattle.access_handshake.specs.declared.stage.Stage.TheVariants.{Chosen, Checked, Accessed}
 use Rattle.access_handshake.specs.declared.accepted.Accepted.{Accepted}
 use Rattle.access_handshake.specs.Access.{hello_object}
@@ -18,7 +18,7 @@ use Rattle.unit_segments.specs.Command.{ends_unit, code_of, data_of, body_fault}
 use Rattle.unit_segments.specs.Chain.{is_request}
 use Rattle.unit_segments.specs.Limit.{most_chain_bytes}
 use Rattle.unit_segments.specs.Release.{asked}
-use Rattle.unit_segments.specs.Strip.{is_object_of}
+use Rattle.unit_segments.specs.Strip.{is_object_of, FitsAReply}
 use Rattle.unit_segments.specs.Handshake.{own_command, replayed}
 use Rattle.unit_segments.specs.Accepts.{gives_admission, has_accrdbrm, accepts}
 use Rattle.plain_model.specs.Standing.{Standing, attached, checked, accessed, log_with, after_end}
@@ -80,11 +80,13 @@ pub record IsCommand (c : Command) : Type 0 where
   pub sound : body_fault c.body ≡ None
   pub size : length c.body ≤ most_chain_bytes
 
--- one of the replies to a command: DRDA, volume 3, RPYDSS, OBJDSS; DDM, volume 3, ACCRDBRM
+-- One of the replies to a command: DRDA, volume 3, RPYDSS, OBJDSS; DDM, volume 3, ACCRDBRM, ENDUOWRM. A longer message of the
+-- end of a unit couldn't be read any more once it is written anew.
 pub record IsReplyTo (c : Command) (d : Dss) : Type 0 where
   pub number : d.corr ≡ c.corr
   pub kind : is_request d.kind ≡ false
   pub readable : is_object_of accrdbrm d ≡ true → (length d.body ≤ most_chain_bytes) × (is_some (accepted_of (data_of d.body)) ≡ true)
+  pub end_fits : is_object_of enduowrm d ≡ true → FitsAReply d
 
 pub record AreReplies (c : Command) (replies : List Dss) : Type 0 where
   pub some : replies ≢ []
@@ -148,17 +150,19 @@ pub record Laws {S U : Type 0} (m : Meaning S U) (v : Values S U) : Type 0 where
       → (log_with st (sets_in c (m.replies s u (asked c)))).fault ≡ None
       → (m.unit_after s u (asked c) ≡ m.base attached)
       × (m.unit_after s u (unasked c) ≡ m.base (after_end st (sets_in c (m.replies s u (asked c))))))
-  -- where it isn't, the session stands there in the unit that it leads to
+  -- whether it is granted or not, the session then stands there in the unit to which the other one leads
   pub held : WhereItStands v (λ st s u c. st.stage ≡ Accessed → ends_unit (class_of c.code) ≡ true
-      → ends (m.replies s u (asked c)) ≡ true → releases (m.replies s u (asked c)) ≡ false
+      → ends (m.replies s u (asked c)) ≡ true
       → (log_with st (sets_in c (m.replies s u (asked c)))).fault ≡ None
-      → v.stands (after_end st (sets_in c (m.replies s u (asked c)))) (m.unit_after s u (asked c)))
+      → v.stands (after_end st (sets_in c (m.replies s u (asked c)))) (m.unit_after s u (unasked c)))
   -- EXCSAT leads to attached, and the commands that are sent again from there to where the session stands
   pub greeted : (typ : TypDef) (mechanism : ℕ) → Leads m v typ mechanism m.fresh (own_command excsat hello_object ∷ []) (m.base attached)
   pub led_back : (name : List ℕ) (typ : TypDef) (st : Standing) → AllByRecursion IsCommand (replayed name st.stage st.access st.log)
       → Leads m v typ st.access.secmec (m.base attached) (replayed name st.stage st.access st.log) (m.base st)
+  -- a session that stands somewhere can stand there at the base, and one without a log can so wherever it stands
+  pub unset_base : (st : Standing) → st.log ≡ [] → v.stands st (m.base st)
+  pub at_base : (st : Standing) (u : U) → v.stands st u → v.stands st (m.base st)
   -- access, step by step; access that is granted leads to the base
-  pub at_base : (st : Standing) → v.stands st (m.base st)
   pub admitted : WhereItStands v (λ st s u c. st.stage ≡ Chosen → c.code ≡ secchk
       → gives_admission (m.replies s u c) ≡ true → v.stands (checked c.body st) (m.unit_after s u c))
   pub not_admitted : WhereItStands v (λ st s u c. st.stage ≡ Chosen → c.code ≡ secchk

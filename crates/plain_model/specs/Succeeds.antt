@@ -1,25 +1,15 @@
 -- What runs again after a loss succeeds. No standard speaks of it: it is this project's own.
 use Rattle.std.specs.Prelude.{◌≡◌, ℕ, true, false, List, None}
-use Rattle.std.specs.List.{flat_map, AllByRecursion}
+use Rattle.std.specs.List.{flat_map}
 use Rattle.dss_frame.specs.declared.dss.Dss.{Dss}
-use Rattle.ddm_codepoints.specs.CodePoint.{enduowrm}
 use Rattle.access_handshake.specs.declared.stage.Stage.TheVariants.{Accessed}
 use Rattle.unit_segments.specs.declared.command.Command.{Command}
 use Rattle.unit_segments.specs.Accepts.{sets_only}
-use Rattle.unit_segments.specs.Strip.{is_object_of, FitsAReply}
-use Rattle.plain_model.specs.Group.{Meaning, Values, AlwaysBoth, led, answers}
+use Rattle.plain_model.specs.Group.{Meaning, led, answers}
 use Rattle.plain_model.specs.Core.{Core}
 use Rattle.plain_model.specs.Answered.{without_error}
 use Rattle.plain_model.specs.Plain.{Session, Event, start, plain, ArePossible}
 use Rattle.plain_model.specs.Repeats.{AreSame}
-
--- a message that says how a unit of work ended is no longer than a reply may be: DDM, volume 3, ENDUOWRM
-abbrev pub EndFits : Dss → Type 0
-EndFits d = is_object_of enduowrm d ≡ true → FitsAReply d
-
--- What is asked of a group besides its laws. A longer message couldn't be read any more once it is written anew.
-abbrev pub EndsFit : {S U : Type 0} → Meaning S U → Values S U → Type 0
-EndsFit m v = AlwaysBoth v (λ s u c. AllByRecursion EndFits (m.replies s u c))
 
 -- the replies to all of these commands, one after another
 abbrev pub all_replies : {S U : Type 0} → Meaning S U → S → U → List Command → List Dss

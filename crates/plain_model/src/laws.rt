@@ -4,7 +4,7 @@ ghost use Rattle.std.specs.Prelude.{ℕ, List};
 ghost use Rattle.plain_model.specs.Told.{EachUnitIsFair};
 ghost use Rattle.plain_model.specs.Sound.{EachCoreIsSound};
 ghost use Rattle.plain_model.specs.Repeats.{NoRepeatNeedsData};
-ghost use Rattle.plain_model.specs.Succeeds.{EndsFit, EachRepeatSucceeds};
+ghost use Rattle.plain_model.specs.Succeeds.{EachRepeatSucceeds};
 ghost use Rattle.plain_model.specs.InWork.{LossIsTold, StaysInWork, CanRunAgain, AllAreCounted};
 
 use crate::group::Group;
@@ -50,9 +50,7 @@ pub fn repeats_need_no_data<G: Group>(_group: &G)
 
 /// While a unit is neither spoken nor pinned it is where the commands that run again lead from the base, unless a segment began
 /// to run; and run from there they are each answered by one SQLCARD of success, and by no error, whatever the data are then: so
-/// what runs again after a loss succeeds. Of the group this asks that a message that says how a unit ended is no longer than a
-/// reply may be.
+/// what runs again after a loss succeeds.
 pub fn each_repeat_succeeds<G: Group>(_group: &G)
-    ensures { (name : List ℕ) → EndsFit G.meaning (record { shared = G.is_shared; unit = G.is_unit; stands = G.stands })
-        → EachRepeatSucceeds name G.meaning G.is_shared }
+    ensures { (name : List ℕ) → EachRepeatSucceeds name G.meaning G.is_shared }
 {}

@@ -1,3 +1,5 @@
 pub mod Keeping
 pub mod Pieces
 pub mod Handshakes
+pub mod Calls
+pub mod Whole

@@ -1,6 +1,6 @@
 -- Whether the reply to a round gives access or refuses it: DDM, volume 3, EXCSATRD, ACCSECRD, SECCHKRM, ACCRDBRM, SQLCARD. What each
 -- reply has to be stands in Accepts.antt of unit_segments; that it is judged when the reply to the chain is whole is this project's own.
-use Rattle.std.specs.Prelude.{ℕ, Bool, true, false, ◌==◌, not, ◌||◌, is_some, if◌then◌else◌, List}
+use Rattle.std.specs.Prelude.{ℕ, Bool, ◌==◌, not, ◌||◌, is_some, if◌then◌else◌, List}
 use Rattle.std.specs.Prelude.{[], ◌∷◌, find, Option, Some, None, option_and_then, unwrap_or}
 use Rattle.std.specs.List.{list_all}
 use Rattle.dss_frame.specs.declared.dss.Dss.{Dss}

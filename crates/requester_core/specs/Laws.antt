@@ -1,9 +1,7 @@
 -- What the laws speak of. No standard does: this is this project's own.
-use Rattle.std.specs.Prelude.{◌≡◌, ℕ, List, [], ◌∷◌, length, Option, Some, None}
-use Rattle.dss_frame.specs.Reading.{View, fed}
+use Rattle.std.specs.Prelude.{◌≡◌, ℕ, List, [], ◌∷◌, Option, Some, None}
 use Rattle.unit_segments.specs.declared.command.Command.{Command}
 use Rattle.unit_segments.specs.Release.{asked_bytes}
-use Rattle.requester_core.specs.declared.round.Round.{Round}
 use Rattle.requester_core.specs.declared.got.Got.TheVariants.{More}
 use Rattle.requester_core.specs.Talk.{Talking, back}
 

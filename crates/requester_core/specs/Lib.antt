@@ -5,3 +5,5 @@ pub mod Reply
 pub mod Judging
 pub mod Talk
 pub mod Laws
+pub mod Calls
+pub mod Grammar

@@ -1,5 +1,5 @@
 -- What leads a conversation to where a session stands: DDM, volume 3, ACCSEC, SECCHK, ACCRDB; DRDA, volume 3, EXCSQLSET.
-use Rattle.std.specs.Prelude.{ℕ, ◌≤◌, List, [], length, Option, Some, None}
+use Rattle.std.specs.Prelude.{ℕ, List, [], Option, Some, None}
 use Rattle.access_handshake.specs.declared.access.Access.{Access}
 use Rattle.access_handshake.specs.declared.stage.Stage.{Stage}
 use Rattle.unit_segments.specs.Registers.{Register}

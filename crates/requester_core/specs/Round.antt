@@ -1,6 +1,6 @@
 -- The rounds of a conversation: a chain that is sent, and what its reply is for. DDM, volume 3, EXCSAT, ACCSEC, SECCHK, ACCRDB; DRDA,
 -- volume 3, EXCSQLSET. That a chain is sent when the reply to the one before is whole is this project's own.
-use Rattle.std.specs.Prelude.{ℕ, Bool, true, false, List, [], ◌∷◌, ◌++◌, map, length, Option, Some, None}
+use Rattle.std.specs.Prelude.{ℕ, Bool, true, false, List, [], ◌∷◌, ◌++◌, map, Option, Some, None}
 use Rattle.access_handshake.specs.declared.access.Access.{Access}
 use Rattle.access_handshake.specs.declared.stage.Stage.{Stage}
 use Rattle.access_handshake.specs.declared.stage.Stage.TheVariants.{New, Attached, Chosen, Checked, Accessed}

@@ -13,7 +13,10 @@ mod round;
 mod talk;
 
 pub use got::Got;
-pub use laws::{handshake_is_set_out, pieces_are_the_reply};
+pub use laws::{
+    calls_are_the_rounds, each_reply_begins_anew, handshake_is_set_out, pieces_are_the_reply,
+    whole_replies_are_read,
+};
 pub use lost::{Lost, Owed, Verdict, decide};
 pub use replay::replay_chain;
 pub use talk::Talk;

@@ -1,7 +1,9 @@
 ghost use Rattle.std.specs.Prelude.{◌≡◌};
-ghost use Rattle.requester_core.specs.Reply.{may_come, number_place, by_number, by_field, by_fault, by_begun, judged_rest, judged_end, judged};
+ghost use Rattle.std.specs.Prelude.{IfOk};
+ghost use Rattle.requester_core.specs.Reply.{may_come, number_place, by_number, by_told, by_field, completed, judged_rest, judged_end, judged, judged_byte};
 
-use dss_frame::{Placed, StreamFault, Why};
+use dss_frame::{FeedFault, Placed, Reader, StreamFault, Why};
+use link_ends::NoMemory;
 
 /// What stands behind the whole DSSs of a reply: the DSS that isn't whole, as far as it came.
 #[derive(Clone, Copy, Debug)]
@@ -58,6 +60,26 @@ impl Numbers {
             }
         }
     }
+
+    /// The same of a number that may not have come.
+    fn judge_told(self, place: u64, number: Option<u16>, judged: Judged) -> Judged
+        ensures { result ≡ by_told self.count self.least place number judged }
+    {
+        match number {
+            Some(number) => self.judge(place, number, judged),
+            None => judged,
+        }
+    }
+
+    /// What a reply comes to that has a field at this place that is none of a DSS, in the DSS at that place with this number.
+    fn judge_field(self, place: u64, at: u64, why: Why, number: u16) -> Judged
+        ensures { result ≡ by_field self.count self.least place at why number }
+    {
+        match why {
+            Why::Short | Why::NoD0 | Why::Format => Judged::Leaves { at },
+            Why::Continue => self.judge(place, number, Judged::Leaves { at }),
+        }
+    }
 }
 
 /// What was read of a reply comes to: these DSSs, whose first has one of these numbers, and what stands behind them.
@@ -98,23 +120,44 @@ fn judge_end(behind: &[Placed], rest: Rest) -> Judged
 fn judge_rest(numbers: Numbers, rest: Rest) -> Judged
     ensures { result ≡ judged_rest numbers.count numbers.least rest }
 {
-    match (rest.fault, rest.number) {
-        (None, None) => Judged::GoesOn,
-        (None, Some(number)) => numbers.judge(rest.place, number, Judged::GoesOn),
-        (Some(StreamFault::TooLong { corr, .. }), _) => {
-            numbers.judge(rest.place, corr, Judged::Passes)
+    match rest.fault {
+        None => numbers.judge_told(rest.place, rest.number, Judged::GoesOn),
+        Some(StreamFault::TooLong { corr, .. }) => numbers.judge(rest.place, corr, Judged::Passes),
+        Some(StreamFault::Frame { at, why, corr }) => numbers.judge_field(
+            rest.place, at, why, corr,
+        ),
+    }
+}
+
+/// What the first byte beyond the limit comes to, behind what this reader read of a reply that goes on.
+pub(crate) fn judge_byte(
+    numbers: Numbers,
+    reader: &mut Reader,
+    byte: u8,
+) -> Result<Judged, NoMemory>
+    ensures { IfOk result (λ judged. judged ≡ judged_byte numbers.count numbers.least reader.old byte) }
+{
+    let place = reader.place();
+    let number = completed(reader.begun(), byte);
+    if let Err(FeedFault::NoMemory) = reader.feed(&[byte]) {
+        return Err(NoMemory);
+    }
+    Ok(match reader.fault() {
+        Some(StreamFault::Frame { at, why, corr }) => numbers.judge_field(place, at, why, corr),
+        Some(StreamFault::TooLong { .. }) | None => {
+            numbers.judge_told(place, number, Judged::Passes)
         }
-        (
-            Some(
-                StreamFault::Frame {
-                    at,
-                    why: Why::Continue,
-                    corr,
-                },
-            ),
-            _,
-        ) => numbers.judge(rest.place, corr, Judged::Leaves { at }),
-        (Some(StreamFault::Frame { at, .. }), _) => Judged::Leaves { at },
+    })
+}
+
+/// The correlation number that a byte completes behind these bytes of a DSS.
+fn completed(bytes: &[u8], byte: u8) -> Option<u16>
+    ensures { result ≡ completed bytes.now byte }
+{
+    if bytes.len() == 5 {
+        Some(256 * u16::from(bytes[4]) + u16::from(byte))
+    } else {
+        None
     }
 }
 

@@ -1,4 +1,4 @@
-ghost use Rattle.std.specs.Prelude.{◌≡◌, ◌≤◌, ◌++◌, [], if◌then◌else◌, length, map, option_copied, IfOk, OnOk};
+ghost use Rattle.std.specs.Prelude.{◌≡◌, ◌≤◌, ◌<◌, ◌+◌, ◌^◌, ◌++◌, [], if◌then◌else◌, length, map, take, drop, option_copied, IfOk, OnOk};
 ghost use Rattle.std.specs.Option.{ForSome};
 ghost use Rattle.std.specs.List.{AllByRecursion};
 ghost use Rattle.access_handshake.specs.declared.stage.Stage.TheVariants.{New, Attached};
@@ -8,15 +8,17 @@ ghost use Rattle.unit_segments.specs.Release.{FitsAChain};
 ghost use Rattle.unit_segments.specs.Strip.{FitsAReply};
 ghost use Rattle.requester_core.specs.Replay.{given};
 ghost use Rattle.requester_core.specs.Round.{needed, work};
-ghost use Rattle.requester_core.specs.Talk.{quiet, mark_of, again_for, begun, to_send, sent, is_in_segment, back, with_piece, with_replies, given_up, ended_in};
+ghost use Rattle.requester_core.specs.Talk.{quiet, mark_of, again_for, begun, to_send, sent, is_in_segment, back, given_up, ended_in};
+ghost use Rattle.requester_core.specs.Talk.{with_piece, with_replies, read_in, read_all, judged_piece, with_byte, without_reader, judged_all};
 ghost use Rattle.requester_core.specs.Reply.{most_reply_bytes, least_after, number_in, rest_of};
-ghost use Rattle.dss_frame.specs.Reading.{fed};
+ghost use Rattle.dss_frame.specs.declared.dss.Side.TheVariants.{Replies};
+ghost use Rattle.dss_frame.specs.Reading.{start, fed};
 
 use crate::answer::told_typdef;
 use crate::got::Got;
 use crate::judging::{admits, finished};
 use crate::replay::replayed;
-use crate::reply::{Judged, Numbers, Rest, judge};
+use crate::reply::{Judged, Numbers, Rest, judge, judge_byte};
 use crate::round::{Rounds, put_access, put_again, put_hello, put_work};
 use access_handshake::{Access, Mark, Stage};
 use byteorder::{BigEndian, ByteOrder};
@@ -31,7 +33,7 @@ use std::mem;
 use unit_segments::{Command, CommandList, RegisterLog, Segment};
 
 /// How many bytes a reply has at most.
-const MOST_REPLY_BYTES: u64 = 33_554_432;
+const MOST_REPLY_BYTES: usize = 33_554_432;
 
 /// The gateway's end of a conversation with a server, for as long as a session has it. It is seen as the chains still to be sent,
 /// how far the first of them was taken, and what was read of its reply.
@@ -102,7 +104,7 @@ impl Talk {
             typdef: TypDef::Sql370,
             rounds: VecDeque::new(alloc),
             taken: 0,
-            reader: Reader::new(alloc, Side::Replies, MOST_REPLY_BYTES),
+            reader: new_reader(alloc),
             replies: Sequence::new(alloc),
             unread: 0,
         }
@@ -224,16 +226,9 @@ impl Talk {
             return Ok(Got::More);
         };
         let is_work = outgoing.round().is_work();
-        let numbers = Numbers {
-            count: outgoing.round().commands().len(),
-            least: least_after(&self.replies),
-        };
-        let placed = self.read(piece)?;
-        match judge(numbers, placed.as_slice(), self.rest()) {
-            Judged::GoesOn => {
-                self.keep(placed)?;
-                Ok(Got::More)
-            }
+        let count = outgoing.round().commands().len();
+        match self.read(count, piece)? {
+            Judged::GoesOn => Ok(Got::More),
             Judged::Leaves { at } => {
                 self.give_up();
                 Ok(Got::Broken { at })
@@ -242,15 +237,59 @@ impl Talk {
                 self.give_up();
                 Ok(too_long(is_work))
             }
-            Judged::Ends => {
-                self.keep(placed)?;
-                self.end()
-            }
+            Judged::Ends => self.end(),
+        }
+    }
+
+    /// Reads a piece of the reply to so many commands: what is within the limit, and the first byte beyond it.
+    fn read(&mut self, count: usize, piece: &[u8]) -> Result<Judged, NoMemory>
+        ensures judged { IfOk result (λ judged. judged ≡ judged_all count piece.now self.old) }
+        ensures talk { OnOk result (self.new ≡ read_all piece.now self.old) }
+    {
+        let (front, behind) = split(piece, MOST_REPLY_BYTES.saturating_sub(self.unread));
+        let judged = self.read_within(count, front)?;
+        match behind.first() {
+            Some(byte) => self.read_beyond(count, judged, *byte),
+            None => Ok(judged),
+        }
+    }
+
+    /// Reads a piece that is within the limit.
+    fn read_within(&mut self, count: usize, piece: &[u8]) -> Result<Judged, NoMemory>
+        requires { self.old.unread + length piece.now < 2 ^ 64 }
+        ensures judged { IfOk result (λ judged. judged ≡ judged_piece count piece.now self.old) }
+        ensures talk { OnOk result (self.new ≡ read_in piece.now self.old) }
+    {
+        let placed = self.take_in(piece)?;
+        let numbers = Numbers {
+            count,
+            least: least_after(&self.replies),
+        };
+        let judged = judge(numbers, placed.as_slice(), self.rest());
+        self.keep(placed)?;
+        Ok(judged)
+    }
+
+    /// Reads the first byte beyond the limit, behind what comes to this. The reader isn't kept.
+    fn read_beyond(&mut self, count: usize, judged: Judged, byte: u8) -> Result<Judged, NoMemory>
+        ensures judged { IfOk result (λ now. now ≡ with_byte judged count byte self.old) }
+        ensures talk { OnOk result (self.new ≡ without_reader self.old) }
+    {
+        let mut reader = mem::replace(&mut self.reader, new_reader(self.alloc));
+        let numbers = Numbers {
+            count,
+            least: least_after(&self.replies),
+        };
+        match judged {
+            Judged::GoesOn => judge_byte(numbers, &mut reader, byte),
+            Judged::Leaves { .. } | Judged::Passes => Ok(judged),
+            Judged::Ends => Ok(Judged::Leaves { at: reader.place() }),
         }
     }
 
     /// Reads a piece, and takes out of the reader what is whole.
-    fn read(&mut self, piece: &[u8]) -> Result<Vec<Placed>, NoMemory>
+    fn take_in(&mut self, piece: &[u8]) -> Result<Vec<Placed>, NoMemory>
+        requires { self.old.unread + length piece.now < 2 ^ 64 }
         ensures placed { IfOk result (λ placed. placed.items ≡ (fed self.old.reader piece.now).whole) }
         ensures fit { IfOk result (λ placed. AllByRecursion (λ p. FitsAReply p.dss) placed.items) }
         ensures talk { OnOk result (self.new ≡ with_piece piece.now self.old) }
@@ -259,7 +298,7 @@ impl Talk {
             return Err(NoMemory);
         }
         let placed = take_all(self.alloc, &mut self.reader)?;
-        self.unread = self.unread.saturating_add(piece.len());
+        self.unread += piece.len();
         Ok(placed)
     }
 
@@ -291,6 +330,7 @@ impl Talk {
     fn give_up(&mut self)
         ensures { self.new ≡ given_up self.old }
     {
+        self.reader = new_reader(self.alloc);
         self.replies = Sequence::new(self.alloc);
     }
 
@@ -321,6 +361,24 @@ impl Talk {
             None if self.rounds.is_empty() => Got::Ready,
             None => Got::More,
         })
+    }
+}
+
+/// What reads a reply.
+fn new_reader(alloc: Global) -> Reader
+    ensures { result ≡ start Replies most_reply_bytes }
+{
+    Reader::new(alloc, Side::Replies, MOST_REPLY_BYTES as u64)
+}
+
+/// The first so many bytes of a piece, where it has so many, and the others.
+fn split(piece: &[u8], room: usize) -> (&[u8], &[u8])
+    ensures front { result.0.now ≡ take room piece.now }
+    ensures behind { result.1.now ≡ drop room piece.now }
+{
+    match piece.split_at_checked(room) {
+        Some(parts) => parts,
+        None => (piece, &[]),
     }
 }
 

@@ -101,9 +101,6 @@ const ASKED_COMMIT: [u8; 20] = [
     0x05, 0x21, 0x0E, 0xF1,
 ];
 
-/// The first bytes of a DSS that fills its segment, chained, number 1.
-const FULL: [u8; 6] = [0x7F, 0xFF, 0xD0, 0x43, 0x00, 0x01];
-
 /// What a piece comes to, without what the reply comes to.
 #[derive(Clone, Copy, Debug, PartialEq, Eq)]
 enum Seen {
@@ -114,6 +111,264 @@ enum Seen {
     Ready,
     Whole,
 }
+
+/// Bytes of a reply to a segment, and what they come to, with the places counted from their first byte.
+const REPLIES: [(&[u8], &[u8], Seen); 16] = [
+    (
+        &INSERT,
+        &[
+            0x00, 0x0B, 0xD0, 0x03, 0x00, 0x02, 0x00, 0x05, 0x24, 0x08, 0xFF,
+        ],
+        Seen::Broken(4),
+    ),
+    (
+        &INSERT,
+        &[0x00, 0x0B, 0xD0, 0x03, 0x00, 0x02],
+        Seen::Broken(4),
+    ),
+    (
+        &INSERT,
+        &[0x00, 0x0B, 0xD0, 0x03, 0x00, 0x00],
+        Seen::Broken(4),
+    ),
+    (&INSERT, &[0x00, 0x0B, 0xD0, 0x03, 0x00], Seen::More),
+    (
+        &INSERT,
+        &[
+            0x00, 0x0B, 0xD0, 0x01, 0x00, 0x01, 0x00, 0x05, 0x24, 0x08, 0xFF,
+        ],
+        Seen::Broken(3),
+    ),
+    (&INSERT, &[0x00, 0x05], Seen::Broken(0)),
+    (
+        &INSERT,
+        &[
+            0x00, 0x0B, 0xD0, 0x43, 0x00, 0x01, 0x00, 0x05, 0x24, 0x08, 0xFF,
+        ],
+        Seen::More,
+    ),
+    (
+        &INSERT,
+        &[
+            0x00, 0x0B, 0xD0, 0x03, 0x00, 0x01, 0x00, 0x05, 0x24, 0x08, 0xFF, 0x00,
+        ],
+        Seen::Broken(11),
+    ),
+    (
+        &INSERT,
+        &[
+            0x00, 0x0B, 0xD0, 0x03, 0x00, 0x01, 0x00, 0x05, 0x24, 0x08, 0xFF, 0x00, 0x0B, 0xD0,
+            0x03, 0x00, 0x01, 0x00, 0x05, 0x24, 0x08, 0xFF,
+        ],
+        Seen::Broken(11),
+    ),
+    (
+        &INSERT,
+        &[
+            0x00, 0x0B, 0xD0, 0x03, 0x00, 0x01, 0x00, 0x05, 0x24, 0x08, 0xFF, 0x00, 0x05,
+        ],
+        Seen::Broken(11),
+    ),
+    (
+        &INSERT,
+        &[
+            0x00, 0x0B, 0xD0, 0x03, 0x00, 0x01, 0x00, 0x06, 0x24, 0x08, 0xFF,
+        ],
+        Seen::Whole,
+    ),
+    (
+        &INSERT,
+        &[0x80, 0x06, 0xD0, 0x03, 0x00, 0x02, 0x00, 0x01],
+        Seen::Broken(4),
+    ),
+    (
+        &INSERT,
+        &[0x80, 0x06, 0xD0, 0x03, 0x00, 0x01, 0x00, 0x01],
+        Seen::Broken(6),
+    ),
+    (
+        &INSERTS,
+        &[
+            0x00, 0x0B, 0xD0, 0x43, 0x00, 0x02, 0x00, 0x05, 0x24, 0x08, 0xFF, 0x00, 0x0B, 0xD0,
+            0x03, 0x00, 0x01, 0x00, 0x05, 0x24, 0x08, 0xFF,
+        ],
+        Seen::Broken(15),
+    ),
+    (
+        &INSERTS,
+        &[
+            0x00, 0x0B, 0xD0, 0x43, 0x00, 0x01, 0x00, 0x05, 0x24, 0x08, 0xFF, 0x00, 0x0B, 0xD0,
+            0x03, 0x00, 0x02, 0x00, 0x05, 0x24, 0x08, 0xFF,
+        ],
+        Seen::Whole,
+    ),
+    (
+        &INSERTS,
+        &[
+            0x00, 0x0B, 0xD0, 0x03, 0x00, 0x02, 0x00, 0x05, 0x24, 0x08, 0xFF,
+        ],
+        Seen::Whole,
+    ),
+];
+
+/// Each cause of a refused access, in the reply of this number: to the gateway's EXCSAT, to the chain of access, or to what runs again.
+const REFUSALS: [(usize, &[&[u8]]); 16] = [
+    // EXCSATRD without levels.
+    (
+        0,
+        &[&[0x00, 0x0A, 0xD0, 0x03, 0x00, 0x01, 0x00, 0x04, 0x14, 0x43]],
+    ),
+    // SQLAM at level 6.
+    (
+        0,
+        &[&[
+            0x00, 0x16, 0xD0, 0x03, 0x00, 0x01, 0x00, 0x10, 0x14, 0x43, 0x00, 0x0C, 0x14, 0x04,
+            0x14, 0x03, 0x00, 0x07, 0x24, 0x07, 0x00, 0x06,
+        ]],
+    ),
+    // MGRLVLRM.
+    (
+        0,
+        &[&[
+            0x00, 0x18, 0xD0, 0x02, 0x00, 0x01, 0x00, 0x12, 0x12, 0x10, 0x00, 0x06, 0x11, 0x49,
+            0x00, 0x08, 0x00, 0x08, 0x14, 0x04, 0x24, 0x07, 0x00, 0x07,
+        ]],
+    ),
+    // EXCSATRD twice.
+    (
+        0,
+        &[
+            &[
+                0x00, 0x12, 0xD0, 0x43, 0x00, 0x01, 0x00, 0x0C, 0x14, 0x43, 0x00, 0x08, 0x14, 0x04,
+                0x24, 0x07, 0x00, 0x07,
+            ],
+            &[
+                0x00, 0x12, 0xD0, 0x03, 0x00, 0x01, 0x00, 0x0C, 0x14, 0x43, 0x00, 0x08, 0x14, 0x04,
+                0x24, 0x07, 0x00, 0x07,
+            ],
+        ],
+    ),
+    // An offer of mechanisms.
+    (
+        1,
+        &[
+            &[
+                0x00, 0x12, 0xD0, 0x43, 0x00, 0x01, 0x00, 0x0C, 0x14, 0xAC, 0x00, 0x08, 0x11, 0xA2,
+                0x00, 0x03, 0x00, 0x04,
+            ],
+            &ADMISSION,
+            &ACCESS,
+            &REGISTERS,
+        ],
+    ),
+    // Another mechanism.
+    (
+        1,
+        &[
+            &[
+                0x00, 0x10, 0xD0, 0x43, 0x00, 0x01, 0x00, 0x0A, 0x14, 0xAC, 0x00, 0x06, 0x11, 0xA2,
+                0x00, 0x04,
+            ],
+            &ADMISSION,
+            &ACCESS,
+            &REGISTERS,
+        ],
+    ),
+    // SECCHKCD 0F.
+    (
+        1,
+        &[
+            &MECHANISM,
+            &[
+                0x00, 0x15, 0xD0, 0x02, 0x00, 0x02, 0x00, 0x0F, 0x12, 0x19, 0x00, 0x06, 0x11, 0x49,
+                0x00, 0x08, 0x00, 0x05, 0x11, 0xA4, 0x0F,
+            ],
+        ],
+    ),
+    // A refused SECCHK, whatever follows.
+    (
+        1,
+        &[
+            &MECHANISM,
+            &[
+                0x00, 0x15, 0xD0, 0x42, 0x00, 0x02, 0x00, 0x0F, 0x12, 0x19, 0x00, 0x06, 0x11, 0x49,
+                0x00, 0x08, 0x00, 0x05, 0x11, 0xA4, 0x0F,
+            ],
+            &ACCESS,
+            &REGISTERS,
+        ],
+    ),
+    // No SECCHKRM.
+    (1, &[&MECHANISM, &ACCESS, &REGISTERS]),
+    // No ACCRDBRM.
+    (
+        1,
+        &[
+            &MECHANISM,
+            &ADMISSION,
+            &[
+                0x00, 0x10, 0xD0, 0x42, 0x00, 0x03, 0x00, 0x0A, 0x22, 0x04, 0x00, 0x06, 0x11, 0x49,
+                0x00, 0x08,
+            ],
+            &REGISTERS,
+        ],
+    ),
+    // An ACCRDBRM that can't be read.
+    (
+        1,
+        &[
+            &MECHANISM,
+            &ADMISSION,
+            &[0x00, 0x0A, 0xD0, 0x42, 0x00, 0x03, 0x00, 0x04, 0x22, 0x01],
+            &REGISTERS,
+        ],
+    ),
+    // No reply to EXCSQLSET.
+    (
+        1,
+        &[
+            &MECHANISM,
+            &ADMISSION,
+            &[
+                0x00, 0x33, 0xD0, 0x02, 0x00, 0x03, 0x00, 0x2D, 0x22, 0x01, 0x00, 0x06, 0x11, 0x49,
+                0x00, 0x00, 0x00, 0x0C, 0x11, 0x2E, 0xC7, 0xD9, 0xD7, 0xF0, 0xF1, 0xF0, 0xF1, 0xF0,
+                0x00, 0x0D, 0x00, 0x2F, 0xD8, 0xE3, 0xC4, 0xE2, 0xD8, 0xD3, 0xF3, 0xF7, 0xF0, 0x00,
+                0x0A, 0x00, 0x35, 0x00, 0x06, 0x11, 0x9C, 0x00, 0x25,
+            ],
+        ],
+    ),
+    // An error of EXCSQLSET.
+    (
+        1,
+        &[
+            &MECHANISM,
+            &ADMISSION,
+            &ACCESS,
+            &[
+                0x00, 0x1E, 0xD0, 0x03, 0x00, 0x04, 0x00, 0x18, 0x24, 0x08, 0x00, 0xFF, 0xFF, 0xFF,
+                0x98, 0xF4, 0xF2, 0xF6, 0xF0, 0xF1, 0x40, 0x40, 0x40, 0x40, 0x40, 0x40, 0x40, 0x40,
+                0xFF, 0xFF,
+            ],
+        ],
+    ),
+    // An error of what runs again.
+    (2, &[&FAILED]),
+    // Two SQLCARDs.
+    (
+        2,
+        &[
+            &[
+                0x00, 0x0B, 0xD0, 0x43, 0x00, 0x01, 0x00, 0x05, 0x24, 0x08, 0xFF,
+            ],
+            &DONE,
+        ],
+    ),
+    // No SQLCARD.
+    (
+        2,
+        &[&[0x00, 0x0A, 0xD0, 0x02, 0x00, 0x01, 0x00, 0x04, 0x12, 0x45]],
+    ),
+];
 
 fn kind_of(got: &Got) -> Seen {
     match got {
@@ -305,113 +560,15 @@ fn working(alloc: Global, bytes: &[u8], before: usize) -> Result<Talk, Fail> {
     Ok(talk)
 }
 
-/// Bytes of a reply, with the places counted from its first byte: at the beginning of the conversation's stream, and behind
-/// another reply.
+/// At the beginning of the conversation's stream, and behind another reply.
 #[test]
 fn reads_replies(rt: HostRuntime) -> Result<(), Fail> {
-    let rows: [(&[u8], &[u8], Seen); 16] = [
-        (
-            &INSERT,
-            &[
-                0x00, 0x0B, 0xD0, 0x03, 0x00, 0x02, 0x00, 0x05, 0x24, 0x08, 0xFF,
-            ],
-            Seen::Broken(4),
-        ),
-        (
-            &INSERT,
-            &[0x00, 0x0B, 0xD0, 0x03, 0x00, 0x02],
-            Seen::Broken(4),
-        ),
-        (
-            &INSERT,
-            &[0x00, 0x0B, 0xD0, 0x03, 0x00, 0x00],
-            Seen::Broken(4),
-        ),
-        (&INSERT, &[0x00, 0x0B, 0xD0, 0x03, 0x00], Seen::More),
-        (
-            &INSERT,
-            &[
-                0x00, 0x0B, 0xD0, 0x01, 0x00, 0x01, 0x00, 0x05, 0x24, 0x08, 0xFF,
-            ],
-            Seen::Broken(3),
-        ),
-        (&INSERT, &[0x00, 0x05], Seen::Broken(0)),
-        (
-            &INSERT,
-            &[
-                0x00, 0x0B, 0xD0, 0x43, 0x00, 0x01, 0x00, 0x05, 0x24, 0x08, 0xFF,
-            ],
-            Seen::More,
-        ),
-        (
-            &INSERT,
-            &[
-                0x00, 0x0B, 0xD0, 0x03, 0x00, 0x01, 0x00, 0x05, 0x24, 0x08, 0xFF, 0x00,
-            ],
-            Seen::Broken(11),
-        ),
-        (
-            &INSERT,
-            &[
-                0x00, 0x0B, 0xD0, 0x03, 0x00, 0x01, 0x00, 0x05, 0x24, 0x08, 0xFF, 0x00, 0x0B, 0xD0,
-                0x03, 0x00, 0x01, 0x00, 0x05, 0x24, 0x08, 0xFF,
-            ],
-            Seen::Broken(11),
-        ),
-        (
-            &INSERT,
-            &[
-                0x00, 0x0B, 0xD0, 0x03, 0x00, 0x01, 0x00, 0x05, 0x24, 0x08, 0xFF, 0x00, 0x05,
-            ],
-            Seen::Broken(11),
-        ),
-        (
-            &INSERT,
-            &[
-                0x00, 0x0B, 0xD0, 0x03, 0x00, 0x01, 0x00, 0x06, 0x24, 0x08, 0xFF,
-            ],
-            Seen::Whole,
-        ),
-        (
-            &INSERT,
-            &[0x80, 0x06, 0xD0, 0x03, 0x00, 0x02, 0x00, 0x01],
-            Seen::Broken(4),
-        ),
-        (
-            &INSERT,
-            &[0x80, 0x06, 0xD0, 0x03, 0x00, 0x01, 0x00, 0x01],
-            Seen::Broken(6),
-        ),
-        (
-            &INSERTS,
-            &[
-                0x00, 0x0B, 0xD0, 0x43, 0x00, 0x02, 0x00, 0x05, 0x24, 0x08, 0xFF, 0x00, 0x0B, 0xD0,
-                0x03, 0x00, 0x01, 0x00, 0x05, 0x24, 0x08, 0xFF,
-            ],
-            Seen::Broken(15),
-        ),
-        (
-            &INSERTS,
-            &[
-                0x00, 0x0B, 0xD0, 0x43, 0x00, 0x01, 0x00, 0x05, 0x24, 0x08, 0xFF, 0x00, 0x0B, 0xD0,
-                0x03, 0x00, 0x02, 0x00, 0x05, 0x24, 0x08, 0xFF,
-            ],
-            Seen::Whole,
-        ),
-        (
-            &INSERTS,
-            &[
-                0x00, 0x0B, 0xD0, 0x03, 0x00, 0x02, 0x00, 0x05, 0x24, 0x08, 0xFF,
-            ],
-            Seen::Whole,
-        ),
-    ];
-    for (segment, bytes, wanted) in rows {
+    for (segment, bytes, wanted) in REPLIES {
         for (before, place) in [(0, 0), (1, 11)] {
             let mut talk = working(rt.alloc(), segment, before)?;
             send_all(&mut talk)?;
             let wanted = match wanted {
-                Seen::Broken(at) => Seen::Broken(at + place),
+                Seen::Broken(at) => Seen::Broken(at.saturating_add(place)),
                 other => other,
             };
             assert_eq!(rt; kind_of(&talk.on_back(bytes)?), wanted);
@@ -434,168 +591,10 @@ fn reads_bytes_one_by_one(rt: HostRuntime) -> Result<(), Fail> {
     Ok(())
 }
 
-/// Each cause of a refused access in the reply to the gateway's EXCSAT, to the chain of access, or to what runs again: on a
-/// conversation that was dialled, and where it isn't EXCSAT on an idle one.
+/// On a conversation that was dialled, and where it isn't EXCSAT on an idle one.
 #[test]
 fn refuses_access(rt: HostRuntime) -> Result<(), Fail> {
-    let rows: [(usize, &[&[u8]]); 16] = [
-        // EXCSATRD without levels.
-        (
-            0,
-            &[&[0x00, 0x0A, 0xD0, 0x03, 0x00, 0x01, 0x00, 0x04, 0x14, 0x43]],
-        ),
-        // SQLAM at level 6.
-        (
-            0,
-            &[&[
-                0x00, 0x16, 0xD0, 0x03, 0x00, 0x01, 0x00, 0x10, 0x14, 0x43, 0x00, 0x0C, 0x14, 0x04,
-                0x14, 0x03, 0x00, 0x07, 0x24, 0x07, 0x00, 0x06,
-            ]],
-        ),
-        // MGRLVLRM.
-        (
-            0,
-            &[&[
-                0x00, 0x18, 0xD0, 0x02, 0x00, 0x01, 0x00, 0x12, 0x12, 0x10, 0x00, 0x06, 0x11, 0x49,
-                0x00, 0x08, 0x00, 0x08, 0x14, 0x04, 0x24, 0x07, 0x00, 0x07,
-            ]],
-        ),
-        // EXCSATRD twice.
-        (
-            0,
-            &[
-                &[
-                    0x00, 0x12, 0xD0, 0x43, 0x00, 0x01, 0x00, 0x0C, 0x14, 0x43, 0x00, 0x08, 0x14,
-                    0x04, 0x24, 0x07, 0x00, 0x07,
-                ],
-                &[
-                    0x00, 0x12, 0xD0, 0x03, 0x00, 0x01, 0x00, 0x0C, 0x14, 0x43, 0x00, 0x08, 0x14,
-                    0x04, 0x24, 0x07, 0x00, 0x07,
-                ],
-            ],
-        ),
-        // An offer of mechanisms.
-        (
-            1,
-            &[
-                &[
-                    0x00, 0x12, 0xD0, 0x43, 0x00, 0x01, 0x00, 0x0C, 0x14, 0xAC, 0x00, 0x08, 0x11,
-                    0xA2, 0x00, 0x03, 0x00, 0x04,
-                ],
-                &ADMISSION,
-                &ACCESS,
-                &REGISTERS,
-            ],
-        ),
-        // Another mechanism.
-        (
-            1,
-            &[
-                &[
-                    0x00, 0x10, 0xD0, 0x43, 0x00, 0x01, 0x00, 0x0A, 0x14, 0xAC, 0x00, 0x06, 0x11,
-                    0xA2, 0x00, 0x04,
-                ],
-                &ADMISSION,
-                &ACCESS,
-                &REGISTERS,
-            ],
-        ),
-        // SECCHKCD 0F.
-        (
-            1,
-            &[
-                &MECHANISM,
-                &[
-                    0x00, 0x15, 0xD0, 0x02, 0x00, 0x02, 0x00, 0x0F, 0x12, 0x19, 0x00, 0x06, 0x11,
-                    0x49, 0x00, 0x08, 0x00, 0x05, 0x11, 0xA4, 0x0F,
-                ],
-            ],
-        ),
-        // A refused SECCHK, whatever follows.
-        (
-            1,
-            &[
-                &MECHANISM,
-                &[
-                    0x00, 0x15, 0xD0, 0x42, 0x00, 0x02, 0x00, 0x0F, 0x12, 0x19, 0x00, 0x06, 0x11,
-                    0x49, 0x00, 0x08, 0x00, 0x05, 0x11, 0xA4, 0x0F,
-                ],
-                &ACCESS,
-                &REGISTERS,
-            ],
-        ),
-        // No SECCHKRM.
-        (1, &[&MECHANISM, &ACCESS, &REGISTERS]),
-        // No ACCRDBRM.
-        (
-            1,
-            &[
-                &MECHANISM,
-                &ADMISSION,
-                &[
-                    0x00, 0x10, 0xD0, 0x42, 0x00, 0x03, 0x00, 0x0A, 0x22, 0x04, 0x00, 0x06, 0x11,
-                    0x49, 0x00, 0x08,
-                ],
-                &REGISTERS,
-            ],
-        ),
-        // An ACCRDBRM that can't be read.
-        (
-            1,
-            &[
-                &MECHANISM,
-                &ADMISSION,
-                &[0x00, 0x0A, 0xD0, 0x42, 0x00, 0x03, 0x00, 0x04, 0x22, 0x01],
-                &REGISTERS,
-            ],
-        ),
-        // No reply to EXCSQLSET.
-        (
-            1,
-            &[
-                &MECHANISM,
-                &ADMISSION,
-                &[
-                    0x00, 0x33, 0xD0, 0x02, 0x00, 0x03, 0x00, 0x2D, 0x22, 0x01, 0x00, 0x06, 0x11,
-                    0x49, 0x00, 0x00, 0x00, 0x0C, 0x11, 0x2E, 0xC7, 0xD9, 0xD7, 0xF0, 0xF1, 0xF0,
-                    0xF1, 0xF0, 0x00, 0x0D, 0x00, 0x2F, 0xD8, 0xE3, 0xC4, 0xE2, 0xD8, 0xD3, 0xF3,
-                    0xF7, 0xF0, 0x00, 0x0A, 0x00, 0x35, 0x00, 0x06, 0x11, 0x9C, 0x00, 0x25,
-                ],
-            ],
-        ),
-        // An error of EXCSQLSET.
-        (
-            1,
-            &[
-                &MECHANISM,
-                &ADMISSION,
-                &ACCESS,
-                &[
-                    0x00, 0x1E, 0xD0, 0x03, 0x00, 0x04, 0x00, 0x18, 0x24, 0x08, 0x00, 0xFF, 0xFF,
-                    0xFF, 0x98, 0xF4, 0xF2, 0xF6, 0xF0, 0xF1, 0x40, 0x40, 0x40, 0x40, 0x40, 0x40,
-                    0x40, 0x40, 0xFF, 0xFF,
-                ],
-            ],
-        ),
-        // An error of what runs again.
-        (2, &[&FAILED]),
-        // Two SQLCARDs.
-        (
-            2,
-            &[
-                &[
-                    0x00, 0x0B, 0xD0, 0x43, 0x00, 0x01, 0x00, 0x05, 0x24, 0x08, 0xFF,
-                ],
-                &DONE,
-            ],
-        ),
-        // No SQLCARD.
-        (
-            2,
-            &[&[0x00, 0x0A, 0xD0, 0x02, 0x00, 0x01, 0x00, 0x04, 0x12, 0x45]],
-        ),
-    ];
-    for (which, parts) in rows {
+    for (which, parts) in REFUSALS {
         let bad = joined(rt.alloc(), parts)?;
         assert_eq!(rt; comes_to(rt.alloc(), true, which, &bad)?, Seen::Refused);
         if which > 0 {
@@ -611,7 +610,7 @@ fn gives_access(rt: HostRuntime) -> Result<(), Fail> {
     let replies: [&[u8]; 3] = [&HELLO, &GOOD, &DONE];
     for (is_dialled, first) in [(true, 0), (false, 1)] {
         let mut talk = begun(rt.alloc(), is_dialled)?;
-        for reply in &replies[first..] {
+        for reply in replies.get(first..).unwrap_or(&replies) {
             send_all(&mut talk)?;
             assert_eq!(rt; talk.in_segment(), false);
             assert_eq!(rt; kind_of(&talk.on_back(reply)?), Seen::More);
@@ -653,29 +652,99 @@ fn reads_the_answer_to_accrdb(rt: HostRuntime) -> Result<(), Fail> {
     Ok(())
 }
 
-/// The first byte beyond what a reply may have: in the reply to the segment, and in one of a handshake.
+/// How many bytes a DSS has at most that is spelled in one segment.
+const SEGMENT: u16 = 32_767;
+
+/// So many bytes of a chained DSS with number 1, whose body is zeros.
+fn filler(alloc: Global, count: u16) -> Result<Vec<u8>, Fail> {
+    let mut bytes = joined(alloc, &[&count.to_be_bytes(), &[0xD0, 0x43, 0x00, 0x01]])?;
+    bytes.resize(usize::from(count), 0)?;
+    Ok(bytes)
+}
+
+/// What these bytes come to, in one piece, in the reply to one command behind 1,024 DSSs of 32,767 bytes and one of so many.
+fn comes_last(alloc: Global, before: u16, bytes: &[u8]) -> Result<Seen, Fail> {
+    reads_last(working(alloc, &INSERT, 0)?, alloc, before, bytes)
+}
+
+/// The same in this conversation.
+fn reads_last(talk: Talk, alloc: Global, before: u16, bytes: &[u8]) -> Result<Seen, Fail> {
+    let mut talk = talk;
+    let full = filler(alloc, SEGMENT)?;
+    let last = filler(alloc, before)?;
+    send_all(&mut talk)?;
+    for _ in 0..1024 {
+        talk.on_back(full.as_slice())?;
+    }
+    talk.on_back(last.as_slice())?;
+    Ok(kind_of(&talk.on_back(bytes)?))
+}
+
+/// The last bytes of a reply to one command: how many bytes the DSS before them has, behind which 1,024 bytes would be left up to the
+/// limit; the bytes; and what they come to.
+type LastBytes = (u16, &'static [u8], Seen);
+
+/// The first byte beyond the limit in a body, and behind the last DSS.
+const BEYOND: [LastBytes; 2] = [
+    (
+        1016,
+        &[0x00, 0x0B, 0xD0, 0x03, 0x00, 0x01, 0x00, 0x05, 0x24],
+        Seen::TooLong,
+    ),
+    (
+        1016,
+        &[0x00, 0x08, 0xD0, 0x03, 0x00, 0x01, 0x00, 0x05, 0x24],
+        Seen::Broken(33_554_432),
+    ),
+];
+
+/// It completes a number that is none of a command, and a number begins with it.
+const NUMBERS: [LastBytes; 2] = [
+    (
+        1019,
+        &[0x00, 0x0B, 0xD0, 0x03, 0x00, 0x02],
+        Seen::Broken(33_554_431),
+    ),
+    (1020, &[0x00, 0x0B, 0xD0, 0x03, 0x02], Seen::TooLong),
+];
+
+/// It completes a length that is none, and is itself a format byte that is none.
+const FIELDS: [LastBytes; 2] = [
+    (1023, &[0x00, 0x05], Seen::Broken(33_554_431)),
+    (1021, &[0x00, 0x0B, 0xD0, 0x01], Seen::TooLong),
+];
+
 #[test]
 fn refuses_long_replies(rt: HostRuntime) -> Result<(), Fail> {
-    let mut piece = joined(rt.alloc(), &[&FULL])?;
-    piece.resize(32_767, 0)?;
-    let work = working(rt.alloc(), &INSERT, 0)?;
-    assert_eq!(rt; beyond(work, &piece)?, Seen::TooLong);
-    let handshake = replaying(rt.alloc(), 0)?;
-    assert_eq!(rt; beyond(handshake, &piece)?, Seen::Refused);
+    for (before, bytes, wanted) in BEYOND {
+        assert_eq!(rt; comes_last(rt.alloc(), before, bytes)?, wanted);
+    }
     Ok(())
 }
 
-/// What the first byte beyond the limit comes to, behind DSSs of 32,767 bytes.
-fn beyond(talk: Talk, piece: &[u8]) -> Result<Seen, Fail> {
-    let mut talk = talk;
-    send_all(&mut talk)?;
-    for _ in 0..1024 {
-        talk.on_back(piece)?;
+#[test]
+fn refuses_numbers_at_the_limit(rt: HostRuntime) -> Result<(), Fail> {
+    for (before, bytes, wanted) in NUMBERS {
+        assert_eq!(rt; comes_last(rt.alloc(), before, bytes)?, wanted);
     }
-    if let Some((front, _)) = piece.split_at_checked(1024) {
-        talk.on_back(front)?;
+    Ok(())
+}
+
+#[test]
+fn refuses_fields_at_the_limit(rt: HostRuntime) -> Result<(), Fail> {
+    for (before, bytes, wanted) in FIELDS {
+        assert_eq!(rt; comes_last(rt.alloc(), before, bytes)?, wanted);
     }
-    Ok(kind_of(&talk.on_back(&[0])?))
+    Ok(())
+}
+
+/// A reply of a handshake that is too long refuses access.
+#[test]
+fn refuses_long_handshakes(rt: HostRuntime) -> Result<(), Fail> {
+    let talk = replaying(rt.alloc(), 0)?;
+    let (before, bytes, _) = BEYOND[0];
+    assert_eq!(rt; reads_last(talk, rt.alloc(), before, bytes)?, Seen::Refused);
+    Ok(())
 }
 
 /// A loss of each kind.

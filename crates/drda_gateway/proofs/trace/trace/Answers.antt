@@ -57,7 +57,7 @@ returns-in-Ok-refusal-clause-refused g c = λ _.
     let now : SinkState = g.K.Sink.state c.offer-in-Ok-refusal.new.sink in
     record {
       text = c.in-Ok.text;
-      line = c.in-Err-Refused.line;
+      refusal = c.in-Err-Refused.line;
       read = c.in-Ok.ensures.read;
       is_refused = refused c.in-Ok.text c.as_slice.result.now c.in-Err-Refused.field-0 c.in-Err-Refused.line c.as_slice.ensures
           c.in-Err-Refused.field-0-is c.in-Err-Refused.ensures;
