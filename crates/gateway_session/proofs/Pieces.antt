@@ -1,15 +1,14 @@
 -- It doesn't matter in what pieces bytes are said, or come.
-use Rattle.std.proofs.Common.{◌≡◌, ◌<◌, ℕ, zero, suc, ◌+◌, List, [], ◌∷◌, ◌++◌, length, drop, Option, Some, None, refl, sym, ap, ◌∙◌, arith}
-use Rattle.std.proofs.Common.{length-drop, add-one, zero-add}
+use Rattle.std.proofs.Common.{◌≡◌, ◌<◌, ℕ, zero, suc, ◌+◌, List, [], ◌∷◌, ◌++◌, length, drop, Option, Some, refl, sym, ap, ◌∙◌, arith}
+use Rattle.std.proofs.Common.{length-drop, zero-add}
 use Rattle.requester_core.specs.declared.got.Got.{Got}
 use Rattle.requester_core.specs.declared.got.Got.TheVariants.{More}
 use Rattle.requester_core.specs.Talk.{Talking, back}
-use Rattle.requester_core.specs.Laws.{LeavesOpen}
 use Rattle.requester_core.proofs.Pieces.{pieces_joined}
 use Rattle.gateway_session.specs.declared.held.Held.{Held}
 use Rattle.gateway_session.specs.Session.{Session}
 use Rattle.gateway_session.specs.Steps.{said_by, after_said, got_on, talked_on, back_by, after_back}
-use Rattle.gateway_session.specs.Laws.{SaysInPieces, Holds, ReadsInPieces}
+use Rattle.gateway_session.specs.Laws.{SaysInPieces, ReadsInPieces}
 
 -- ---- what is said
 

@@ -8,7 +8,6 @@ use Rattle.unit_segments.specs.declared.command.Command.{Command}
 use Rattle.unit_segments.specs.declared.fault.ChainFault.{ChainFault}
 use Rattle.unit_segments.specs.Chain.{OpenChain, chain_step, chain_after}
 use Rattle.session_core.specs.Incoming.{Incoming, with_piece, of_frame, Next, next_by, next_in, next_of, without_next}
-use Rattle.gateway_session.specs.Session.{Session}
 use Rattle.gateway_session.specs.Steps.{begun_by, begin_next, after_app}
 use Rattle.gateway_session.specs.Laws.{TakesInPieces}
 

@@ -1,5 +1,5 @@
 -- What the laws speak of. No standard does: this is this project's own.
-use Rattle.std.specs.Prelude.{◌≡◌, ◌<◌, ℕ, ◌+◌, List, [], ◌∷◌, ◌++◌, length, Option, Some, None}
+use Rattle.std.specs.Prelude.{◌≡◌, ◌<◌, ℕ, ◌+◌, List, ◌∷◌, ◌++◌, length, Some, None}
 use Rattle.requester_core.specs.Talk.{Talking}
 use Rattle.requester_core.specs.Laws.{LeavesOpen}
 use Rattle.session_core.specs.Incoming.{with_piece, next_of}

@@ -10,6 +10,7 @@ use Rattle.gateway_session.specs.declared.need.Need.{Need}
 use Rattle.gateway_session.specs.declared.loss.LossWhy.{LossWhy}
 use Rattle.gateway_session.specs.declared.loss.LossWhy.TheVariants.{Left}
 use Rattle.gateway_session.specs.declared.loss.ErrorWord.{ErrorWord}
+use Rattle.gateway_session.specs.declared.session.Last.{Last}
 use Rattle.gateway_session.specs.declared.held.Held.{Held}
 use Rattle.gateway_session.specs.declared.held.Tries.{Tries}
 use Rattle.gateway_session.specs.Session.{Session, uncounted, no_tries, no_mark, need_ended, need, mark_by_held, sending_by_held, number_of}
@@ -75,6 +76,20 @@ said_in count (Closes closing) = Closes (said_by count closing.rest closing)
 abbrev pub app_end_in : Bool → State → State
 app_end_in failed (Runs s) = Runs (uncounted (after_app_end failed s))
 app_end_in failed (Closes closing) = Closes (record closing { gone = true })
+
+-- where the session before the step was this one, RSCLMTRM has this number, and this is the loss that is told
+abbrev pub IsLast : State → Last → Type 0
+IsLast (Runs s) last = (last.number ≡ first_number s.core) × (last.loss ≡ loss_at_end s.held s.unasked.loss)
+IsLast (Closes closing) last = Unit {0}
+
+-- memory ran out in the step that led to this session
+abbrev pub closed_after : Last → State → State
+closed_after last (Runs s) = Closes (record { rest = s.to_say; reply = memory_reply last.number; loss = last.loss; gone = s.gone })
+closed_after last (Closes closing) = Closes closing
+
+abbrev pub IsGoing : State → Type 0
+IsGoing (Runs s) = Unit {0}
+IsGoing (Closes closing) = ⊥
 
 abbrev pub IsClosing : State → Type 0
 IsClosing (Runs s) = ⊥

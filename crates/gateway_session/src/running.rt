@@ -1,11 +1,14 @@
-ghost use Rattle.std.specs.Prelude.{◌≡◌, ◌≤◌, ◌++◌, [], drop, length, IfOk, OnOk, OnErr};
+ghost use Rattle.std.specs.Prelude.{◌≡◌, ◌≤◌, ◌++◌, [], drop, length, option_copied, IfOk, OnOk, OnErr};
+ghost use Rattle.std.specs.Option.{ForSome};
+ghost use Rattle.std.specs.List.{AllByRecursion};
+ghost use Rattle.unit_segments.specs.Release.{FitsAChain};
 ghost use Rattle.reply_texts.specs.RdbName.{characters_of};
 ghost use Rattle.plain_model.specs.Core.{first_number};
 ghost use Rattle.session_core.specs.Seen.{seen_kind, seen_end, seen_owed};
 ghost use Rattle.session_core.specs.SeenReading.{seen_reading, HasCommands};
 ghost use Rattle.gateway_session.specs.Session.{new_session, uncounted, need, need_ended, need_going, need_by_talk, is_released, end_of, mark_by_held};
 ghost use Rattle.gateway_session.specs.Session.{sending_by_held, number_of, no_tries};
-ghost use Rattle.gateway_session.specs.Steps.{after_lost, going_on, set_out, says, begin_next, begun_with, after_app, after_said, after_app_end};
+ghost use Rattle.gateway_session.specs.Steps.{after_lost, going_on, set_out, to_run, says, begin_next, begun_with, after_app, after_said, after_app_end};
 ghost use Rattle.gateway_session.specs.Steps.{after_lend, holding, with_none_left, with_limit, after_dialled, after_given, after_sent, after_back};
 ghost use Rattle.gateway_session.specs.Steps.{got_on, talked_on, with_accepted, with_release, with_whole, with_answered, untried};
 ghost use Rattle.gateway_session.specs.Steps.{is_tried_at_once, tried_once, none_left_word, accept_word};
@@ -24,7 +27,7 @@ use session_core::{CoreEnd, Incoming, LimitKind, Reading, SessionCore};
 use std::alloc::Global;
 use std::marker::Model;
 use std::mem;
-use unit_segments::Stripped;
+use unit_segments::{Segment, Stripped};
 
 /// A session that finds its memory.
 #[derive(Drop)]
@@ -43,7 +46,7 @@ pub(crate) struct Running {
 }
 
 impl Model for Running {
-    ghost use Rattle.std.specs.Prelude.{drop};
+    ghost use Rattle.std.specs.Prelude.{◌≡◌, drop};
     ghost use Rattle.std.specs.Option.{ForSome};
     ghost use Rattle.reply_texts.specs.RdbName.{characters_of};
     ghost use Rattle.gateway_session.specs.Session.{Session};
@@ -62,7 +65,7 @@ impl Model for Running {
       gone = r.gone;
     } };
 
-    ghost invariant = { λ r. ForSome r.held HasMember };
+    ghost invariant = { λ r. ForSome r.held HasMember × (r.core.unit ≡ 0) };
 }
 
 impl Running {
@@ -91,6 +94,7 @@ impl Running {
     // ---- what it is
 
     /// What it needs next.
+    #[tactic(auto, unfolding(crate::specs::Session::need))]
     pub(crate) fn need(&self) -> Need
         ensures { result ≡ need self.now }
     {
@@ -238,6 +242,7 @@ impl Running {
     // ---- a loss
 
     /// The transport that is held, if one is, is lost.
+    #[tactic(auto, unfolding(crate::specs::Steps::after_lost), using(crate::proofs::Counting::same, crate::proofs::Counting::same_core))]
     pub(crate) fn lose(&mut self, why: LossWhy)
         ensures { self.new ≡ uncounted (after_lost why self.old) }
     {
@@ -254,6 +259,7 @@ impl Running {
     // ---- going on
 
     /// A session that has ended loses the transport that it holds; else the segment in work goes out on it.
+    #[tactic(auto, using(crate::proofs::Counting::same, crate::proofs::Counting::same_core))]
     fn go_on(&mut self) -> Result<(), NoMemory>
         ensures session { OnOk result (self.new ≡ uncounted (going_on self.old)) }
         ensures saying { KeepsSaying self.old self.new }
@@ -278,6 +284,7 @@ impl Running {
     }
 
     /// What was finished is to be said, when the session has gone on.
+    #[tactic(auto, using(crate::proofs::Counting::same))]
     fn say(&mut self, said: Octets) -> Result<(), NoMemory>
         requires { self.old.to_say ≡ [] }
         ensures session { OnOk result (self.new ≡ says said (uncounted (going_on self.old))) }
@@ -292,6 +299,7 @@ impl Running {
     // ---- bytes of the application
 
     /// A piece came of the application.
+    #[tactic(auto, unfolding(crate::specs::Steps::after_app))]
     pub(crate) fn app(&mut self, piece: &[u8]) -> Result<(), NoMemory>
         requires { self.old.to_say ≡ [] }
         ensures session { OnOk result (self.new ≡ uncounted (after_app piece.now self.old)) }
@@ -302,6 +310,7 @@ impl Running {
     }
 
     /// The next chain comes into work, or a fault in its place, where that is whole.
+    #[tactic(auto, unfolding(crate::specs::Steps::begin_next), using(crate::proofs::Counting::same))]
     fn begin_next(&mut self) -> Result<(), NoMemory>
         requires { self.old.to_say ≡ [] }
         ensures session { OnOk result (self.new ≡ uncounted (begin_next self.old)) }
@@ -314,6 +323,7 @@ impl Running {
     }
 
     /// What the application's bytes go on with comes into work.
+    #[tactic(auto, using(crate::proofs::Counting::same, crate::proofs::Counting::begun_unit))]
     fn begin(&mut self, reading: Reading) -> Result<(), NoMemory>
         requires commands { HasCommands reading }
         requires said { self.old.to_say ≡ [] }
@@ -345,11 +355,12 @@ impl Running {
     }
 
     /// So many bytes were said; when all are, the next chain is looked for.
+    #[tactic(auto, unfolding(crate::specs::Steps::after_said), using(crate::proofs::Counting::same))]
     pub(crate) fn said(&mut self, n: usize) -> Result<(), NoMemory>
         ensures session { OnOk result (self.new ≡ uncounted (after_said n self.old)) }
         ensures err { OnErr result (KeepsSaying (record self.old { to_say = drop n self.old.to_say }) self.new) }
     {
-        self.count_said(n);
+        self.said = self.said.saturating_add(n);
         if !self.to_say().is_empty() || self.core.segment().is_some() || self.core.end().is_some() {
             return Ok(());
         }
@@ -364,6 +375,7 @@ impl Running {
     }
 
     /// The application ended, or failed.
+    #[tactic(auto, unfolding(crate::specs::Steps::after_app_end), using(crate::proofs::Counting::same, crate::proofs::Counting::left_unit, crate::proofs::Counting::left_uncounted))]
     pub(crate) fn app_end(&mut self, failed: bool)
         ensures { self.new ≡ uncounted (after_app_end failed self.old) }
     {
@@ -375,6 +387,7 @@ impl Running {
     // ---- a transport
 
     /// What it asked for of the pool.
+    #[tactic(auto, unfolding(crate::specs::Steps::after_lend), using(crate::proofs::Counting::same))]
     pub(crate) fn lend(&mut self, lent: Lent) -> Result<(), NoMemory>
         requires member { LendsMember lent }
         requires said { self.old.to_say ≡ [] }
@@ -392,16 +405,28 @@ impl Running {
                 self.hold(number, member, None);
                 Ok(())
             }
-            Lent::Queue => Ok(()),
+            Lent::Queue => {
+                self.wait();
+                Ok(())
+            }
             Lent::NoneLeft => self.none_left(),
             Lent::Worn => self.limit(LimitKind::Numbers),
         }
     }
 
+    /// It waits for a transport, and stays as it is.
+    #[tactic(auto, using(crate::proofs::Counting::same))]
+    fn wait(&self)
+        ensures { self.now ≡ uncounted self.now }
+    {
+        let _ = &self.core;
+    }
+
     /// It holds this transport.
+    #[tactic(auto, using(crate::proofs::Counting::same))]
     fn hold(&mut self, number: u64, member: u32, talk: Option<Talk>)
         requires { IsMember member }
-        ensures { self.new ≡ holding number member talk self.old }
+        ensures { self.new ≡ uncounted (holding number member talk self.old) }
     {
         self.held = Some(Held {
             number,
@@ -412,6 +437,7 @@ impl Running {
     }
 
     /// No listed member is left.
+    #[tactic(auto, using(crate::proofs::Counting::same, crate::proofs::Counting::none_left_unit))]
     fn none_left(&mut self) -> Result<(), NoMemory>
         requires { self.old.to_say ≡ [] }
         ensures session { OnOk result (self.new ≡ uncounted (with_none_left self.old)) }
@@ -425,6 +451,7 @@ impl Running {
     }
 
     /// A limit was passed.
+    #[tactic(auto, using(crate::proofs::Counting::same, crate::proofs::Counting::closed_unit))]
     fn limit(&mut self, kind: LimitKind) -> Result<(), NoMemory>
         requires { self.old.to_say ≡ [] }
         ensures session { OnOk result (self.new ≡ uncounted (with_limit (seen_kind kind) self.old)) }
@@ -437,6 +464,7 @@ impl Running {
     }
 
     /// Its transport was dialled, or couldn't be.
+    #[tactic(auto, unfolding(crate::specs::Steps::after_dialled), using(crate::proofs::Counting::same))]
     pub(crate) fn dialled(&mut self, ok: bool) -> Result<(), NoMemory>
         ensures session { OnOk result (self.new ≡ uncounted (after_dialled ok self.old)) }
         ensures err { OnErr result (KeepsSaying self.old self.new) }
@@ -454,8 +482,9 @@ impl Running {
     }
 
     /// Its transport was given back.
+    #[tactic(auto, unfolding(crate::specs::Steps::after_given), using(crate::proofs::Counting::same))]
     pub(crate) fn given(&mut self)
-        ensures { self.new ≡ after_given self.old }
+        ensures { self.new ≡ uncounted (after_given self.old) }
     {
         self.held = None;
     }
@@ -463,6 +492,7 @@ impl Running {
     // ---- bytes to the server
 
     /// So many bytes were sent.
+    #[tactic(auto, unfolding(crate::specs::Steps::after_sent), using(crate::proofs::Counting::same))]
     pub(crate) fn sent(&mut self, n: usize) -> Result<(), NoMemory>
         requires { n ≤ length (sending_by_held self.old.held) }
         ensures session { OnOk result (self.new ≡ uncounted (after_sent n self.old)) }
@@ -488,6 +518,7 @@ impl Running {
     // ---- bytes of the server
 
     /// A piece came of the server.
+    #[tactic(auto, unfolding(crate::specs::Steps::after_back), using(crate::proofs::Counting::same))]
     pub(crate) fn back(&mut self, piece: &[u8]) -> Result<(), NoMemory>
         requires { self.old.to_say ≡ [] }
         ensures session { OnOk result (self.new ≡ uncounted (after_back piece.now self.old)) }
@@ -520,6 +551,7 @@ impl Running {
     fn got(&mut self, piece: &[u8]) -> Result<Option<Got>, NoMemory>
         ensures got { IfOk result (λ got. got ≡ got_on piece.now self.old.held) }
         ensures session { OnOk result (self.new ≡ record self.old { held = talked_on piece.now self.old.held }) }
+        ensures uncounted { self.old.core.unit ≡ 0 }
         ensures err { OnErr result (KeepsSaying self.old self.new) }
     {
         let Some(held) = &mut self.held else {
@@ -532,6 +564,7 @@ impl Running {
     }
 
     /// Access was given, and the owed error is told.
+    #[tactic(auto, using(crate::proofs::Counting::same, crate::proofs::Counting::accepted_unit))]
     fn accept(&mut self) -> Result<(), NoMemory>
         requires { self.old.to_say ≡ [] }
         ensures session { OnOk result (self.new ≡ uncounted (with_accepted self.old)) }
@@ -569,6 +602,7 @@ impl Running {
     }
 
     /// The segment in work was answered.
+    #[tactic(auto, using(crate::proofs::Counting::same, crate::proofs::Counting::going_on_uncounted, crate::proofs::Counting::answered_unlisted))]
     fn answered(&mut self, stripped: Stripped) -> Result<(), NoMemory>
         requires { self.old.to_say ≡ [] }
         ensures session { OnOk result (self.new ≡ uncounted (with_answered stripped self.old)) }
@@ -578,11 +612,12 @@ impl Running {
         let list = mem::replace(&mut stripped.list, None);
         self.forget_tries();
         let said = self.core.answer(&self.rdb, stripped)?;
+        let passed = self.core.end().is_some();
         self.say(said)?;
         if list.is_some() {
             self.unasked.list = list;
         }
-        if self.core.end().is_some() {
+        if passed {
             self.unasked.word = Some(ErrorWord::Limit);
         }
         Ok(())
@@ -624,25 +659,33 @@ pub(crate) const NO_MARK: Mark = Mark {
     unread: 0,
 };
 
-/// A conversation is to lead to where the session stands, and to run the segment in work: nothing while an error is owed.
+/// A conversation is to lead to where the session stands, and to run the segment in work.
+#[tactic(auto, unfolding(crate::specs::Steps::set_out))]
 fn set_out(core: &SessionCore, talk: &mut Talk) -> Result<(), NoMemory>
     ensures { OnOk result (talk.new ≡ set_out core.now talk.old) }
 {
     let standing = core.standing();
     let access = standing.access();
-    let segment = if core.owed().is_none() {
-        core.segment()
-    } else {
-        None
-    };
     talk.begin(
         standing.stage(),
         Some(access),
         access.secmec,
         standing.registers(),
         core.again(),
-        segment,
+        to_run(core),
     )
+}
+
+/// What a server is sent of the segment in work: nothing while an error is owed.
+#[tactic(auto, using(crate::proofs::Fitting::first_fits))]
+fn to_run(core: &SessionCore) -> Option<&Segment>
+    ensures segment { option_copied result ≡ to_run core.now.owed core.now.segments }
+    ensures fits { ForSome (option_copied result) (λ commands. AllByRecursion FitsAChain commands) }
+{
+    match core.owed() {
+        None => core.segment(),
+        Some(_) => None,
+    }
 }
 
 /// What a session needs that holds a transport.

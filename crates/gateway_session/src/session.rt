@@ -1,10 +1,10 @@
-ghost use Rattle.std.specs.Prelude.{◌≡◌, ◌≤◌, ◌≢◌, None, length, IsOk, IfOk, OnOk, OnErr};
+ghost use Rattle.std.specs.Prelude.{◌≡◌, ◌≤◌, ◌≢◌, None, drop, length, IsOk, IfOk, OnOk, OnErr};
 ghost use Rattle.reply_texts.specs.RdbName.{characters_of};
 ghost use Rattle.gateway_session.specs.declared.need.Need.TheVariants.{App, Lend, Dial, Send, Back, Give, Say};
 ghost use Rattle.gateway_session.specs.Session.{new_session, uncounted};
 ghost use Rattle.gateway_session.specs.Members.{LendsMember};
 ghost use Rattle.gateway_session.specs.Steps.{after_app, after_lend, after_dialled, after_sent, after_back, after_given, after_lost};
-ghost use Rattle.gateway_session.specs.Memory.{Runs, IsClosing, step, out_of_memory, to_say_of, said_in, rest_after_said, app_end_in, need_in, to_say_in};
+ghost use Rattle.gateway_session.specs.Memory.{Runs, IsClosing, IsGoing, IsLast, closed_after, step, out_of_memory, to_say_of, said_in, rest_after_said, app_end_in, need_in, to_say_in};
 ghost use Rattle.gateway_session.specs.Memory.{to_send_in, mark_in, held_in, tries_in, loss_in, list_in, word_in, without_loss, without_list, without_word};
 
 use crate::loss::{ErrorWord, Lent, LossWhy};
@@ -35,11 +35,13 @@ pub struct Session {
 
 impl Model for Session {
     ghost use Rattle.gateway_session.specs.Memory.{State};
-    ghost use Rattle.gateway_session.specs.Closing.{state_of};
+    ghost use Rattle.gateway_session.specs.Closing.{state_of, ClosesEmpty};
 
     ghost Value = { State };
 
     ghost view = { λ s. state_of s.running s.closing };
+
+    ghost invariant = { λ s. ClosesEmpty s.running s.closing };
 }
 
 impl Session {
@@ -271,7 +273,9 @@ impl Session {
     // ---- want of memory
 
     /// What RSCLMTRM and the loss are, where memory runs out in the next step.
-    fn last(&self) -> Last {
+    fn last(&self) -> Last
+        ensures { IsLast self.now result }
+    {
         Last {
             number: self.running.first_number(),
             loss: self.running.loss_at_end(),
@@ -279,7 +283,12 @@ impl Session {
     }
 
     /// After a step in which memory ran out the session says RSCLMTRM and ends, and a transport that it held is lost.
-    fn close_after(&mut self, stepped: Result<(), NoMemory>, last: Last) -> Result<(), NoMemory> {
+    fn close_after(&mut self, stepped: Result<(), NoMemory>, last: Last) -> Result<(), NoMemory>
+        requires { IsGoing self.old }
+        ensures same { result ≡ stepped }
+        ensures ok { OnOk result (self.new ≡ self.old) }
+        ensures memory { OnErr result (self.new ≡ closed_after last self.old) }
+    {
         if stepped.is_err() {
             self.running.stop(last.loss);
             self.closing = Some(Closing {
@@ -293,14 +302,16 @@ impl Session {
 
 /// What is told where memory runs out: the correlation number of RSCLMTRM, and the last loss.
 #[derive(Clone, Copy)]
-struct Last {
-    number: u16,
-    loss: Option<(u64, LossWhy)>,
+pub struct Last {
+    pub number: u16,
+    pub loss: Option<(u64, LossWhy)>,
 }
 
 impl Closing {
     /// The bytes of RSCLMTRM that weren't said.
-    fn left(&self) -> &[u8] {
+    fn left(&self) -> &[u8]
+        ensures { result.now ≡ drop self.now.said self.now.reply }
+    {
         self.reply.as_slice().get(self.said..).unwrap_or(&[])
     }
 }
