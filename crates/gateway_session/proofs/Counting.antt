@@ -42,7 +42,8 @@ settle_unit name (g ∷ segments) k =
         → (if local
         then (if stopped
         then record { core = with_local (answered_locally name g k.standing) [] k; moved = (answered_locally name g k.standing).moved }
-        else moved_too (answered_locally name g k.standing).moved (settle_segments name segments (with_local (answered_locally name g k.standing) segments k)))
+        else moved_too (answered_locally name g k.standing).moved (settle_segments name segments (with_local (answered_locally name g k.standing)
+        segments k)))
         else still k).core.unit ≡ k.unit
     go true true rest = refl
     go true false rest = rest

@@ -66,7 +66,8 @@ unfolding after_app_end after_lost
 app_end_closes failed s after None empty is = (ap Runs is, tt)
 app_end_closes failed s after (Some left) empty is =
     let none : after_app_end failed s ≡ record s { core = core_left failed s.core; gone = true } =
-    ap (λ (held : Option Held). record (lost_by_held why.Left held s) { core = core_left failed (lost_by_held why.Left held s).core; gone = true }) empty.held in
+    ap (λ (held : Option Held). record (lost_by_held why.Left held s) { core = core_left failed (lost_by_held why.Left held s).core; gone = true })
+    empty.held in
     let after_is : after ≡ uncounted (record s { core = core_left failed s.core; gone = true }) = is ∙ ap uncounted none in (
       ap (λ (a : Session). state_of a (Some left)) after_is,
       subst (λ (a : Session). ClosesEmpty a (Some left)) (sym after_is) (record { held = empty.held; list = empty.list; word = empty.word }),

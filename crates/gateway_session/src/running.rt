@@ -375,7 +375,7 @@ impl Running {
     }
 
     /// The application ended, or failed.
-    #[tactic(auto, unfolding(crate::specs::Steps::after_app_end), using(crate::proofs::Counting::same, crate::proofs::Counting::left_unit, crate::proofs::Counting::left_uncounted))]
+    #[tactic(auto, unfolding(crate::specs::Steps::after_app_end), using(crate::proofs::Counting::left_unit, crate::proofs::Counting::left_uncounted))]
     pub(crate) fn app_end(&mut self, failed: bool)
         ensures { self.new ≡ uncounted (after_app_end failed self.old) }
     {

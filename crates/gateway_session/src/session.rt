@@ -4,7 +4,8 @@ ghost use Rattle.gateway_session.specs.declared.need.Need.TheVariants.{App, Lend
 ghost use Rattle.gateway_session.specs.Session.{new_session, uncounted};
 ghost use Rattle.gateway_session.specs.Members.{LendsMember};
 ghost use Rattle.gateway_session.specs.Steps.{after_app, after_lend, after_dialled, after_sent, after_back, after_given, after_lost};
-ghost use Rattle.gateway_session.specs.Memory.{Runs, IsClosing, IsGoing, IsLast, closed_after, step, out_of_memory, to_say_of, said_in, rest_after_said, app_end_in, need_in, to_say_in};
+ghost use Rattle.gateway_session.specs.Memory.{Runs, IsClosing, IsGoing, IsLast, closed_after, step, out_of_memory, to_say_of, said_in};
+ghost use Rattle.gateway_session.specs.Memory.{rest_after_said, app_end_in, need_in, to_say_in};
 ghost use Rattle.gateway_session.specs.Memory.{to_send_in, mark_in, held_in, tries_in, loss_in, list_in, word_in, without_loss, without_list, without_word};
 
 use crate::loss::{ErrorWord, Lent, LossWhy};
