@@ -1,13 +1,22 @@
-// A library with one function.
+//! Scripts: what a gateway begins with, and the bytes and events of a play, read from a text.
 #![tactic(auto)]
 
-ghost use Rattle.std.specs.Prelude.{◌≡◌};
-ghost use Rattle.script_reader.specs.Echo.{echo_of};
+mod body;
+mod command;
+mod draft;
+mod fault;
+mod field;
+mod header;
+mod keyword;
+mod number;
+mod rows;
+mod script;
+mod stage;
+mod users;
+mod weights;
+mod words;
 
-// The `ensures` clause is the contract: what `echo` returns is `echo_of` of its argument, a definition
-// in `specs/Echo.antt`, which a caller's clause can cite too.
-pub fn echo(x: usize) -> usize
-    ensures { result ≡ echo_of x }
-{
-    x
-}
+pub use script::{Line, Row, Script, ScriptFault, ScriptWhy, User, read_script};
+
+#[cfg(test)]
+mod tests;
