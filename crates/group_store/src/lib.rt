@@ -19,6 +19,4 @@ pub use store::Store;
 pub use unit::StoreUnit;
 
 #[cfg(test)]
-mod conversation_tests;
-#[cfg(test)]
 mod tests;

@@ -1,648 +1,441 @@
-use crate::store::Store;
-use crate::unit::StoreUnit;
+use super::*;
 use ddm_codepoints::TypDef;
-use ddm_codepoints::code_point::{
-    ACCRDB, ACCSEC, CLSQRY, CNTQRY, EXCSAT, EXCSQLIMM, EXCSQLSET, OPNQRY, PRPSQLSTT, RDBCMM,
-    RDBRLLBCK, SECCHK,
-};
-use link_ends::{Octets, Sequence};
-use plain_model::Group;
+use ddm_codepoints::code_point::{SQLATTR, SQLSTT};
+use hex_lines::read_hex;
+use link_ends::Octets;
+use member_core::Conversation;
 use reply_texts::encode;
+use server_list::ServerList;
 use std::alloc::Global;
 use std::test::Fail;
-use unit_segments::{Command, join_replies};
 
-/// EXCSAT with AGENT, SQLAM, RDB and SECMGR at level 7, and CMNTCPIP at level 5.
-pub(crate) const HELLO: [u8; 28] = [
-    0x00, 0x1C, 0x10, 0x41, 0x00, 0x18, 0x14, 0x04, 0x14, 0x03, 0x00, 0x07, 0x24, 0x07, 0x00, 0x07,
-    0x24, 0x0F, 0x00, 0x07, 0x14, 0x40, 0x00, 0x07, 0x14, 0x74, 0x00, 0x05,
-];
+// ---- rounds
 
-/// ACCSEC with mechanism 3.
-pub(crate) const MECHANISM: [u8; 10] = [0x00, 0x0A, 0x10, 0x6D, 0x00, 0x06, 0x11, 0xA2, 0x00, 0x03];
+/// An object's code point, SQLSTT or SQLATTR, and its text.
+type Text = (u16, &'static str);
 
-/// SECCHK of ALICE with the password SECRET.
-pub(crate) const USER: [u8; 29] = [
-    0x00, 0x1D, 0x10, 0x6E, 0x00, 0x06, 0x11, 0xA2, 0x00, 0x03, 0x00, 0x09, 0x11, 0xA0, 0xC1, 0xD3,
-    0xC9, 0xC3, 0xC5, 0x00, 0x0A, 0x11, 0xA1, 0xE2, 0xC5, 0xC3, 0xD9, 0xC5, 0xE3,
-];
+/// A command alone in its chain, the objects behind it, and its replies. Bytes are in hexadecimal digits.
+type Round = (&'static str, &'static [Text], &'static str);
 
-/// ACCRDB of SAMPLE with QTDSQL370.
-pub(crate) const DATABASE: [u8; 27] = [
-    0x00, 0x1B, 0x20, 0x01, 0x00, 0x0D, 0x00, 0x2F, 0xD8, 0xE3, 0xC4, 0xE2, 0xD8, 0xD3, 0xF3, 0xF7,
-    0xF0, 0x00, 0x0A, 0x21, 0x10, 0xE2, 0xC1, 0xD4, 0xD7, 0xD3, 0xC5,
-];
-
-/// RDBCMM that asks for release and for SET statements.
-pub(crate) const COMMIT: [u8; 14] = [
-    0x00, 0x0E, 0x20, 0x0E, 0x00, 0x05, 0x11, 0x9F, 0xF2, 0x00, 0x05, 0x21, 0x0E, 0xF1,
-];
-
-/// RDBRLLBCK that asks for nothing.
-const ROLL_BACK: [u8; 4] = [0x00, 0x04, 0x20, 0x0F];
-
-/// The DSS of a SQLCARD of success.
-const DONE: [u8; 11] = [
-    0x00, 0x0B, 0xD0, 0x03, 0x00, 0x01, 0x00, 0x05, 0x24, 0x08, 0xFF,
-];
-
-/// A store with the user ALICE, and a row with key 1.
-pub(crate) fn store(alloc: Global) -> Result<Store, Fail> {
-    let mut store = Store::new(alloc);
-    if !store.add_user(b"ALICE", b"SECRET")? || !store.add_row(b"ALICE", 1, b"A")? {
-        return Err(Fail::from("a user and a row"));
+/// The bytes that digits spell.
+fn bytes(alloc: Global, digits: &str) -> Result<Octets, Fail> {
+    match read_hex(alloc, digits.as_bytes())? {
+        Some(bytes) => Ok(bytes),
+        None => Err(Fail::from("digits")),
     }
-    Ok(store)
 }
 
-/// The replies to a command with number 1, as one chain.
-fn exec(
-    store: &mut Store,
-    unit: &mut StoreUnit,
-    alloc: Global,
-    code: u16,
-    body: &[u8],
-    objects: Sequence<Octets>,
-) -> Result<Octets, Fail> {
-    let command = Command {
-        code,
-        corr: 1,
-        go_on: false,
-        at: 0,
-        body: Octets::of(alloc, body)?,
-        objects,
-    };
-    let replies = store.exec(unit, &command)?;
-    Ok(join_replies(alloc, &replies)?)
-}
-
-/// The replies to a command without objects.
-fn ask(
-    store: &mut Store,
-    unit: &mut StoreUnit,
-    alloc: Global,
-    code: u16,
-    body: &[u8],
-) -> Result<Octets, Fail> {
-    exec(store, unit, alloc, code, body, Sequence::new(alloc))
-}
-
-/// A SQLSTT or a SQLATTR, below 256 bytes, with this text in EBCDIC.
-pub(crate) fn text_object(alloc: Global, code: [u8; 2], text: &[u8]) -> Result<Octets, Fail> {
-    let mut coded = Vec::from_slice(alloc, text)?;
+/// An object with this text in EBCDIC, of fewer than 256 bytes.
+fn text_object(alloc: Global, code: u16, text: &str) -> Result<Octets, Fail> {
+    let mut coded = Vec::from_slice(alloc, text.as_bytes())?;
     encode(&mut coded, TypDef::Sql370);
     let size = u8::try_from(text.len())?;
-    let mut object = Octets::of(
-        alloc,
-        &[
-            0x00,
-            size.saturating_add(10),
-            code[0],
-            code[1],
-            0x00,
-            0x00,
-            0x00,
-            0x00,
-            size,
-        ],
-    )?;
+    let mut object = Octets::of(alloc, &[0x00, size.saturating_add(10)])?;
+    object.push_all(&code.to_be_bytes())?;
+    object.push_all(&[0x00, 0x00, 0x00, 0x00, size])?;
     object.push_all(coded.as_slice())?;
     object.push_all(&[0xFF])?;
     Ok(object)
 }
 
-/// The replies to a command with this statement, and section 5.
-fn state(
-    store: &mut Store,
-    unit: &mut StoreUnit,
-    alloc: Global,
-    code: u16,
-    text: &[u8],
-) -> Result<Octets, Fail> {
-    let mut objects = Sequence::new(alloc);
-    objects.push(text_object(alloc, [0x24, 0x14], text)?)?;
-    exec(store, unit, alloc, code, &section(code), objects)
-}
-
-/// A command with section 5 alone.
-fn section(code: u16) -> [u8; 10] {
-    let code = code.to_be_bytes();
-    [
-        0x00, 0x0A, code[0], code[1], 0x00, 0x06, 0x21, 0x13, 0x00, 0x05,
-    ]
-}
-
-/// The unit of ALICE, who accessed the database.
-fn accessed(store: &mut Store, alloc: Global) -> Result<StoreUnit, Fail> {
-    let mut unit = store.fresh()?;
-    for (code, body) in [
-        (EXCSAT, HELLO.as_slice()),
-        (ACCSEC, MECHANISM.as_slice()),
-        (SECCHK, USER.as_slice()),
-        (ACCRDB, DATABASE.as_slice()),
-    ] {
-        ask(store, &mut unit, alloc, code, body)?;
-    }
-    Ok(unit)
-}
-
-/// The DSS of a SQLCARD with these bytes of SQLCODE and SQLSTATE.
-fn card(told: &[u8; 9]) -> [u8; 30] {
-    let mut dss = [0x40; 30];
-    dss[..11].copy_from_slice(&[
-        0x00, 0x1E, 0xD0, 0x03, 0x00, 0x01, 0x00, 0x18, 0x24, 0x08, 0x00,
-    ]);
-    dss[11..20].copy_from_slice(told);
-    dss[28] = 0xFF;
-    dss[29] = 0xFF;
-    dss
-}
-
-const DUPLICATE: [u8; 9] = [0xFF, 0xFF, 0xFC, 0xDD, 0xF2, 0xF3, 0xF5, 0xF0, 0xF5];
-
-const NOT_FOUND: [u8; 9] = [0x00, 0x00, 0x00, 0x64, 0xF0, 0xF2, 0xF0, 0xF0, 0xF0];
-
-const NO_STATEMENT: [u8; 9] = [0xFF, 0xFF, 0xFF, 0x98, 0xF4, 0xF2, 0xF6, 0xF0, 0xF1];
-
-#[test]
-fn access_is_given(rt: HostRuntime) -> Result<(), Fail> {
-    let mut store = store(rt.alloc())?;
-    let mut unit = store.fresh()?;
-    for (code, body, wanted) in [
-        (
-            RDBCMM,
-            COMMIT.as_slice(),
-            [
-                0x00, 0x10, 0xD0, 0x02, 0x00, 0x01, 0x00, 0x0A, 0x12, 0x45, 0x00, 0x06, 0x11, 0x49,
-                0x00, 0x08,
-            ]
-            .as_slice(),
-        ),
-        (
-            EXCSAT,
-            HELLO.as_slice(),
-            [
-                0x00, 0x22, 0xD0, 0x03, 0x00, 0x01, 0x00, 0x1C, 0x14, 0x43, 0x00, 0x18, 0x14, 0x04,
-                0x14, 0x03, 0x00, 0x07, 0x24, 0x07, 0x00, 0x07, 0x24, 0x0F, 0x00, 0x07, 0x14, 0x40,
-                0x00, 0x07, 0x14, 0x74, 0x00, 0x05,
-            ]
-            .as_slice(),
-        ),
-        (
-            ACCSEC,
-            MECHANISM.as_slice(),
-            [
-                0x00, 0x10, 0xD0, 0x03, 0x00, 0x01, 0x00, 0x0A, 0x14, 0xAC, 0x00, 0x06, 0x11, 0xA2,
-                0x00, 0x03,
-            ]
-            .as_slice(),
-        ),
-        (
-            SECCHK,
-            USER.as_slice(),
-            [
-                0x00, 0x15, 0xD0, 0x02, 0x00, 0x01, 0x00, 0x0F, 0x12, 0x19, 0x00, 0x06, 0x11, 0x49,
-                0x00, 0x00, 0x00, 0x05, 0x11, 0xA4, 0x00,
-            ]
-            .as_slice(),
-        ),
-        (
-            ACCRDB,
-            DATABASE.as_slice(),
-            [
-                0x00, 0x33, 0xD0, 0x02, 0x00, 0x01, 0x00, 0x2D, 0x22, 0x01, 0x00, 0x06, 0x11, 0x49,
-                0x00, 0x00, 0x00, 0x0C, 0x11, 0x2E, 0xC7, 0xD9, 0xD7, 0xF0, 0xF1, 0xF0, 0xF1, 0xF0,
-                0x00, 0x0D, 0x00, 0x2F, 0xD8, 0xE3, 0xC4, 0xE2, 0xD8, 0xD3, 0xF3, 0xF7, 0xF0, 0x00,
-                0x0A, 0x00, 0x35, 0x00, 0x06, 0x11, 0x9C, 0x00, 0x25,
-            ]
-            .as_slice(),
-        ),
-    ] {
-        let replies = ask(&mut store, &mut unit, rt.alloc(), code, body)?;
-        assert_eq!(rt; replies.as_slice(), wanted);
-    }
+/// Appends a DSS of fewer than 256 bytes with number 1; others with this number may follow.
+fn put(chain: &mut Octets, kind: u8, follow: bool, body: &[u8]) -> Result<(), Fail> {
+    let size = u8::try_from(body.len())?;
+    let format = if follow { kind | 0x50 } else { kind };
+    chain.push_all(&[0x00, size.saturating_add(6), 0xD0, format, 0x00, 0x01])?;
+    chain.push_all(body)?;
     Ok(())
 }
+
+/// The chain of a command with these objects.
+fn chain_of(alloc: Global, command: &str, texts: &[Text]) -> Result<Octets, Fail> {
+    let mut chain = Octets::new(alloc);
+    let command = bytes(alloc, command)?;
+    put(&mut chain, 0x01, !texts.is_empty(), command.as_slice())?;
+    let mut left = texts;
+    while let Some(((code, text), rest)) = left.split_first() {
+        let object = text_object(alloc, *code, text)?;
+        put(&mut chain, 0x03, !rest.is_empty(), object.as_slice())?;
+        left = rest;
+    }
+    Ok(chain)
+}
+
+/// Whether a conversation that takes this chain answers it with these replies.
+fn answers(
+    group: &mut Store,
+    conversation: &mut Conversation<Store>,
+    chain: &[u8],
+    replies: &[u8],
+) -> Result<bool, Fail> {
+    let before = conversation.out().len();
+    conversation.take(group, chain)?;
+    Ok(conversation.out().get(before..) == Some(replies))
+}
+
+/// How many rounds, from the first on, a conversation answers as they say.
+fn answered(
+    alloc: Global,
+    group: &mut Store,
+    conversation: &mut Conversation<Store>,
+    rounds: &[Round],
+) -> Result<usize, Fail> {
+    for (count, (command, texts, replies)) in rounds.iter().enumerate() {
+        let chain = chain_of(alloc, command, texts)?;
+        let replies = bytes(alloc, replies)?;
+        if !answers(group, conversation, chain.as_slice(), replies.as_slice())? {
+            return Ok(count);
+        }
+    }
+    Ok(rounds.len())
+}
+
+/// A store with the user ALICE, and a row with key 1.
+fn store(alloc: Global) -> Result<Store, Fail> {
+    let mut store = Store::new(alloc);
+    store.add_user(b"ALICE", b"SECRET")?;
+    store.add_row(b"ALICE", 1, b"A")?;
+    Ok(store)
+}
+
+/// A conversation in which nothing was said.
+fn begun(alloc: Global, group: &Store) -> Result<Conversation<Store>, Fail> {
+    Ok(Conversation::new(alloc, group, &ServerList::new())?)
+}
+
+/// A conversation of ALICE, who accessed the database.
+fn accessed(alloc: Global, group: &mut Store) -> Result<Conversation<Store>, Fail> {
+    let mut conversation = begun(alloc, group)?;
+    if answered(alloc, group, &mut conversation, &ACCESS)? < ACCESS.len() {
+        return Err(Fail::from("access"));
+    }
+    Ok(conversation)
+}
+
+/// How many rounds a conversation of ALICE answers as they say.
+fn answered_behind_access(alloc: Global, rounds: &[Round]) -> Result<usize, Fail> {
+    let mut group = store(alloc)?;
+    let mut conversation = accessed(alloc, &mut group)?;
+    answered(alloc, &mut group, &mut conversation, rounds)
+}
+
+// ---- commands and replies
+
+/// RDBCMM that asks for release and for SET statements.
+const COMMIT: &str = "000E200E0005119FF20005210EF1";
+
+/// RDBRLLBCK that asks for nothing.
+const ROLL_BACK: &str = "0004200F";
+
+/// EXCSQLIMM, EXCSQLSET, PRPSQLSTT, OPNQRY, CNTQRY and CLSQRY of section 5.
+const EXECUTE: &str = "000A200A000621130005";
+
+const SET: &str = "000A2014000621130005";
+
+const PREPARE: &str = "000A200D000621130005";
+
+const OPEN: &str = "000A200C000621130005";
+
+const FETCH: &str = "000A2006000621130005";
+
+const CLOSE: &str = "000A2005000621130005";
+
+/// SQLCARDs: success, -803, +100, -104, -514, -502.
+const DONE: &str = "000BD003000100052408FF";
+
+const DUPLICATE: &str = "001ED00300010018240800FFFFFCDDF2F3F5F0F54040404040404040FFFF";
+
+const NOT_FOUND: &str = "001ED0030001001824080000000064F0F2F0F0F04040404040404040FFFF";
+
+const NO_STATEMENT: &str = "001ED00300010018240800FFFFFF98F4F2F6F0F14040404040404040FFFF";
+
+const NOT_PREPARED: &str = "001ED00300010018240800FFFFFDFEF2F6F5F0F14040404040404040FFFF";
+
+const CURSOR_OPEN: &str = "001ED00300010018240800FFFFFE0AF2F4F5F0F24040404040404040FFFF";
+
+/// A commit with release granted.
+const GRANTED: &str = "001AD05200010014220C00061149000400052115010005119FF2000BD003000100052408FF";
+
+/// PRCCNVRM; QRYNOPRM; what opens a cursor.
+const NOT_ALLOWED: &str = "0010D0020001000A1245000611490008";
+
+const NOT_OPEN: &str = "0010D0020001000A2202000611490004";
+
+const OPENED: &str =
+    "0010D0520001000A2205000611490000001CD00300010016241A0976D00200043F00C80971E0540001D00001";
+
+/// The gateway's EXCSAT; ACCSEC with mechanism 3.
+const HELLO: Round = (
+    "001C1041001814041403000724070007240F00071440000714740005",
+    &[],
+    "0022D0030001001C1443001814041403000724070007240F00071440000714740005",
+);
+
+const MECHANISM: Round = (
+    "000A106D000611A20003",
+    &[],
+    "0010D0030001000A14AC000611A20003",
+);
+
+/// What leads to access: SECCHK of ALICE with SECRET, and ACCRDB of SAMPLE with QTDSQL370, behind these two.
+const ACCESS: [Round; 4] = [
+    HELLO,
+    MECHANISM,
+    (
+        "001D106E000611A20003000911A0C1D3C9C3C5000A11A1E2C5C3D9C5E3",
+        &[],
+        "0015D0020001000F1219000611490000000511A400",
+    ),
+    (
+        "001B2001000D002FD8E3C4E2D8D3F3F7F0000A2110E2C1D4D7D3C5",
+        &[],
+        "0033D0020001002D2201000611490000000C112EC7D9D7F0F1F0F1F0000D002FD8E3C4E2D8D3F3F7F0000A00350006119C0025",
+    ),
+];
+
+// ---- access
+
+/// RDBCMM and DSCSQLSTT before EXCSAT; SECCHK with a space behind the password, of a user who isn't known, without a password,
+/// and with a mechanism that has none; ACCRDB with a type definition that isn't known.
+const REFUSALS: [Round; 12] = [
+    (COMMIT, &[], NOT_ALLOWED),
+    (
+        "00042008",
+        &[],
+        "0016D0020001001012500006114900080006000C2008",
+    ),
+    HELLO,
+    MECHANISM,
+    (
+        "001E106E000611A20003000911A0C1D3C9C3C5000B11A1E2C5C3D9C5E340",
+        &[],
+        "0015D0020001000F1219000611490008000511A40F",
+    ),
+    MECHANISM,
+    (
+        "0011106E000611A20003000711A0C2D6C2",
+        &[],
+        "0015D0020001000F1219000611490008000511A413",
+    ),
+    MECHANISM,
+    (
+        "0013106E000611A20003000911A0C1D3C9C3C5",
+        &[],
+        "0015D0020001000F1219000611490008000511A40F",
+    ),
+    MECHANISM,
+    (
+        "0014106E000611A20004000A11A0C1D3C9C3C540",
+        &[],
+        "0015D0020001000F1219000611490000000511A400",
+    ),
+    (
+        "001B2001000D002FD8E3C4E2D8D3F3F7F1000A2110E2C1D4D7D3C5",
+        &[],
+        "0016D0020001001012520006114900080006000C002F",
+    ),
+];
+
+#[test]
+fn access_is_refused(rt: HostRuntime) -> Result<(), Fail> {
+    let alloc = rt.alloc();
+    let mut group = store(alloc)?;
+    let mut conversation = begun(alloc, &group)?;
+    let count = answered(alloc, &mut group, &mut conversation, &REFUSALS)?;
+    assert_eq!(rt; count, REFUSALS.len());
+    Ok(())
+}
+
+// ---- statements
+
+/// Statements and their SQLCARDs, of which the last two see another schema; EXCSQLIMM without a statement.
+const STATEMENTS: [Round; 17] = [
+    (
+        EXECUTE,
+        &[(SQLSTT, "INSERT INTO T VALUES (1, 'B')")],
+        DUPLICATE,
+    ),
+    (EXECUTE, &[(SQLSTT, "INSERT INTO T VALUES (2, 'B')")], DONE),
+    (
+        EXECUTE,
+        &[(SQLSTT, "INSERT INTO T VALUES (002, 'B')")],
+        DUPLICATE,
+    ),
+    (
+        EXECUTE,
+        &[(SQLSTT, "UPDATE T SET V = 'C' WHERE K = 1")],
+        DONE,
+    ),
+    (
+        EXECUTE,
+        &[(SQLSTT, "UPDATE T SET V = 'C' WHERE K = 3")],
+        NOT_FOUND,
+    ),
+    (EXECUTE, &[(SQLSTT, "DELETE FROM T WHERE K = 1")], DONE),
+    (EXECUTE, &[(SQLSTT, "DELETE FROM T WHERE K = 1")], NOT_FOUND),
+    (EXECUTE, &[(SQLSTT, "INSERT INTO T VALUES (1, 'D')")], DONE),
+    (EXECUTE, &[(SQLSTT, "SELECT K, V FROM T")], NO_STATEMENT),
+    (EXECUTE, &[(SQLSTT, "COMMIT")], NO_STATEMENT),
+    (EXECUTE, &[], NO_STATEMENT),
+    (SET, &[(SQLSTT, "SET R7 = 'x'")], DONE),
+    (SET, &[(SQLSTT, "DELETE FROM T WHERE K = 1")], NO_STATEMENT),
+    (PREPARE, &[(SQLSTT, "SET R7 = 'x'")], NO_STATEMENT),
+    (PREPARE, &[(SQLSTT, "SELECT K, V FROM T")], DONE),
+    (EXECUTE, &[(SQLSTT, "SET CURRENT SCHEMA = 'S'")], DONE),
+    (EXECUTE, &[(SQLSTT, "DELETE FROM T WHERE K = 1")], NOT_FOUND),
+];
 
 #[test]
 fn statements_are_answered(rt: HostRuntime) -> Result<(), Fail> {
-    let mut store = store(rt.alloc())?;
-    let mut unit = accessed(&mut store, rt.alloc())?;
-    let duplicate = card(&DUPLICATE);
-    let not_found = card(&NOT_FOUND);
-    let no_statement = card(&NO_STATEMENT);
-    for (code, text, wanted) in [
-        (
-            EXCSQLIMM,
-            b"INSERT INTO T VALUES (1, 'B')".as_slice(),
-            duplicate.as_slice(),
-        ),
-        (
-            EXCSQLIMM,
-            b"INSERT INTO T VALUES (2, 'B')".as_slice(),
-            DONE.as_slice(),
-        ),
-        (
-            EXCSQLIMM,
-            b"INSERT INTO T VALUES (002, 'B')".as_slice(),
-            duplicate.as_slice(),
-        ),
-        (
-            EXCSQLIMM,
-            b"UPDATE T SET V = 'C' WHERE K = 1".as_slice(),
-            DONE.as_slice(),
-        ),
-        (
-            EXCSQLIMM,
-            b"UPDATE T SET V = 'C' WHERE K = 3".as_slice(),
-            not_found.as_slice(),
-        ),
-        (
-            EXCSQLIMM,
-            b"DELETE FROM T WHERE K = 1".as_slice(),
-            DONE.as_slice(),
-        ),
-        (
-            EXCSQLIMM,
-            b"DELETE FROM T WHERE K = 1".as_slice(),
-            not_found.as_slice(),
-        ),
-        (
-            EXCSQLIMM,
-            b"INSERT INTO T VALUES (1, 'D')".as_slice(),
-            DONE.as_slice(),
-        ),
-        (
-            EXCSQLIMM,
-            b"SELECT K, V FROM T".as_slice(),
-            no_statement.as_slice(),
-        ),
-        (EXCSQLIMM, b"COMMIT".as_slice(), no_statement.as_slice()),
-        (EXCSQLSET, b"SET R7 = 'x'".as_slice(), DONE.as_slice()),
-        (
-            EXCSQLSET,
-            b"DELETE FROM T WHERE K = 1".as_slice(),
-            no_statement.as_slice(),
-        ),
-        (
-            PRPSQLSTT,
-            b"SET R7 = 'x'".as_slice(),
-            no_statement.as_slice(),
-        ),
-        (PRPSQLSTT, b"SELECT K, V FROM T".as_slice(), DONE.as_slice()),
-        (
-            EXCSQLIMM,
-            b"SET CURRENT SCHEMA = 'S'".as_slice(),
-            DONE.as_slice(),
-        ),
-        (
-            EXCSQLIMM,
-            b"DELETE FROM T WHERE K = 1".as_slice(),
-            not_found.as_slice(),
-        ),
-    ] {
-        let replies = state(&mut store, &mut unit, rt.alloc(), code, text)?;
-        assert_eq!(rt; replies.as_slice(), wanted);
-    }
-    let replies = ask(
-        &mut store,
-        &mut unit,
-        rt.alloc(),
-        EXCSQLIMM,
-        &section(EXCSQLIMM),
-    )?;
-    assert_eq!(rt; replies.as_slice(), no_statement.as_slice());
+    let count = answered_behind_access(rt.alloc(), &STATEMENTS)?;
+    assert_eq!(rt; count, STATEMENTS.len());
     Ok(())
 }
 
-/// ENDUOWRM with this UOWDSP, without RLSCONV.
-fn held(disposition: u8) -> [u8; 21] {
-    [
-        0x00,
-        0x15,
-        0xD0,
-        0x52,
-        0x00,
-        0x01,
-        0x00,
-        0x0F,
-        0x22,
-        0x0C,
-        0x00,
-        0x06,
-        0x11,
-        0x49,
-        0x00,
-        0x04,
-        0x00,
-        0x05,
-        0x21,
-        0x15,
-        disposition,
-    ]
-}
+// ---- units of work
 
-/// ENDUOWRM with this UOWDSP and RLSCONV.
-fn granted(disposition: u8) -> [u8; 26] {
-    [
-        0x00,
-        0x1A,
-        0xD0,
-        0x52,
-        0x00,
-        0x01,
-        0x00,
-        0x14,
-        0x22,
-        0x0C,
-        0x00,
-        0x06,
-        0x11,
-        0x49,
-        0x00,
-        0x04,
-        0x00,
-        0x05,
-        0x21,
-        0x15,
-        disposition,
-        0x00,
-        0x05,
-        0x11,
-        0x9F,
-        0xF2,
-    ]
-}
+/// A unit writes the row with key 1, and adds one.
+const FIRST: [Round; 2] = [
+    (
+        EXECUTE,
+        &[(SQLSTT, "UPDATE T SET V = 'B' WHERE K = 1")],
+        DONE,
+    ),
+    (EXECUTE, &[(SQLSTT, "INSERT INTO T VALUES (7, 'B')")], DONE),
+];
 
-/// Whether replies are these two pieces.
-fn are_two(replies: &Octets, first: &[u8], second: &[u8]) -> bool {
-    match replies.as_slice().strip_prefix(first) {
-        Some(rest) => rest == second,
-        None => false,
-    }
-}
+/// Another one sees nothing of it, and lets the row with key 1 go; its cursor stays open.
+const SECOND: [Round; 5] = [
+    (EXECUTE, &[(SQLSTT, "DELETE FROM T WHERE K = 7")], NOT_FOUND),
+    (EXECUTE, &[(SQLSTT, "DELETE FROM T WHERE K = 1")], DONE),
+    (EXECUTE, &[(SQLSTT, "INSERT INTO T VALUES (2, 'C')")], DONE),
+    HOLDS,
+    (OPEN, &[], OPENED),
+];
 
-/// Two units write the row with key 1: the one that commits first does, and the other is rolled back.
+/// UOWDSP 2 with release granted, and SQLCARD -911.
+const CONFLICT: Round = (
+    COMMIT,
+    &[],
+    "001AD05200010014220C00061149000400052115020005119FF2001ED00300010018240800FFFFFC71F4F0F0F0F14040404040404040FFFF",
+);
+
+/// PRPSQLSTT of all rows, for a cursor that commits hold.
+const HOLDS: Round = (
+    PREPARE,
+    &[(SQLATTR, "WITH HOLD"), (SQLSTT, "SELECT K, V FROM T")],
+    DONE,
+);
+
+/// Of two units that wrote the row with key 1 the one that commits first does, and the other is rolled back.
 #[test]
 fn conflicts_roll_back(rt: HostRuntime) -> Result<(), Fail> {
     let alloc = rt.alloc();
-    let mut store = store(alloc)?;
-    let mut first = accessed(&mut store, alloc)?;
-    let mut second = accessed(&mut store, alloc)?;
-    state(
-        &mut store,
-        &mut first,
-        alloc,
-        EXCSQLIMM,
-        b"UPDATE T SET V = 'B' WHERE K = 1",
-    )?;
-    state(
-        &mut store,
-        &mut second,
-        alloc,
-        EXCSQLIMM,
-        b"DELETE FROM T WHERE K = 1",
-    )?;
-    state(
-        &mut store,
-        &mut second,
-        alloc,
-        EXCSQLIMM,
-        b"INSERT INTO T VALUES (2, 'C')",
-    )?;
-    let replies = ask(&mut store, &mut first, alloc, RDBCMM, &COMMIT)?;
-    assert!(rt;
-        are_two(&replies, &granted(1), &DONE),
-        "the first is committed"
+    let mut group = store(alloc)?;
+    let mut first = accessed(alloc, &mut group)?;
+    let mut second = accessed(alloc, &mut group)?;
+    assert_eq!(rt; answered(alloc, &mut group, &mut first, &FIRST)?, 2);
+    assert_eq!(rt; answered(alloc, &mut group, &mut second, &SECOND)?, 5);
+    assert_eq!(rt;
+        answered(alloc, &mut group, &mut first, &[(COMMIT, &[], GRANTED)])?,
+        1
     );
-    let replies = ask(&mut store, &mut second, alloc, RDBCMM, &COMMIT)?;
-    let conflict = card(&[0xFF, 0xFF, 0xFC, 0x71, 0xF4, 0xF0, 0xF0, 0xF0, 0xF1]);
-    assert!(rt;
-        are_two(&replies, &granted(2), &conflict),
-        "the second is rolled back"
-    );
-    let rows = store.rows()?;
-    assert_eq!(rt; (rows.len(), store.commits()), (1, 1));
-    let row = rows.get(0).ok_or("a row")?;
-    assert_eq!(rt; row.text.as_slice(), b"B".as_slice());
-    assert_eq!(rt; (row.schema.as_slice(), row.key), (b"ALICE".as_slice(), 1));
+    assert_eq!(rt; answered(alloc, &mut group, &mut second, &[CONFLICT])?, 1);
+    assert_eq!(rt; group.commits(), 1);
     Ok(())
 }
 
-/// PRPSQLSTT of all rows in section 5, for a cursor that commits hold.
-fn prepare_held(store: &mut Store, unit: &mut StoreUnit, alloc: Global) -> Result<Octets, Fail> {
-    let mut objects = Sequence::new(alloc);
-    objects.push(text_object(alloc, [0x24, 0x50], b"WITH HOLD")?)?;
-    objects.push(text_object(alloc, [0x24, 0x14], b"SELECT K, V FROM T")?)?;
-    exec(store, unit, alloc, PRPSQLSTT, &section(PRPSQLSTT), objects)
-}
-
-/// A cursor that is held is fetched behind a commit, to its end; a roll back drops another.
+/// Rows are told by schema and by key; a row and a user are added once.
 #[test]
-fn cursors_are_fetched(rt: HostRuntime) -> Result<(), Fail> {
-    let alloc = rt.alloc();
-    let mut store = store(alloc)?;
-    let mut unit = accessed(&mut store, alloc)?;
-    state(
-        &mut store,
-        &mut unit,
-        alloc,
-        EXCSQLIMM,
-        b"INSERT INTO T VALUES (7, 'b')",
-    )?;
-    prepare_held(&mut store, &mut unit, alloc)?;
-    let not_prepared = card(&[0xFF, 0xFF, 0xFD, 0xFE, 0xF2, 0xF6, 0xF5, 0xF0, 0xF1]);
-    let open_already = card(&[0xFF, 0xFF, 0xFE, 0x0A, 0xF2, 0xF4, 0xF5, 0xF0, 0xF2]);
-    let end = card(&NOT_FOUND);
-    let opened = [
-        0x00, 0x10, 0xD0, 0x52, 0x00, 0x01, 0x00, 0x0A, 0x22, 0x05, 0x00, 0x06, 0x11, 0x49, 0x00,
-        0x00, 0x00, 0x1C, 0xD0, 0x03, 0x00, 0x01, 0x00, 0x16, 0x24, 0x1A, 0x09, 0x76, 0xD0, 0x02,
-        0x00, 0x04, 0x3F, 0x00, 0xC8, 0x09, 0x71, 0xE0, 0x54, 0x00, 0x01, 0xD0, 0x00, 0x01,
-    ];
-    let first = [
-        0x00, 0x14, 0xD0, 0x03, 0x00, 0x01, 0x00, 0x0E, 0x24, 0x1B, 0xFF, 0x00, 0x00, 0x00, 0x00,
-        0x01, 0x00, 0x00, 0x01, 0xC1,
-    ];
-    let second = [
-        0x00, 0x14, 0xD0, 0x03, 0x00, 0x01, 0x00, 0x0E, 0x24, 0x1B, 0xFF, 0x00, 0x00, 0x00, 0x00,
-        0x07, 0x00, 0x00, 0x01, 0x82,
-    ];
-    let ended = [
-        0x00, 0x10, 0xD0, 0x52, 0x00, 0x01, 0x00, 0x0A, 0x22, 0x0B, 0x00, 0x06, 0x11, 0x49, 0x00,
-        0x04,
-    ];
-    let not_open = [
-        0x00, 0x10, 0xD0, 0x02, 0x00, 0x01, 0x00, 0x0A, 0x22, 0x02, 0x00, 0x06, 0x11, 0x49, 0x00,
-        0x04,
-    ];
-    let commit = COMMIT.as_slice();
-    let roll_back = ROLL_BACK.as_slice();
-    for (code, body, wanted, behind) in [
-        (
-            OPNQRY,
-            section(OPNQRY).as_slice(),
-            opened.as_slice(),
-            [].as_slice(),
-        ),
-        (
-            OPNQRY,
-            section(OPNQRY).as_slice(),
-            open_already.as_slice(),
-            [].as_slice(),
-        ),
-        (
-            CNTQRY,
-            section(CNTQRY).as_slice(),
-            first.as_slice(),
-            [].as_slice(),
-        ),
-        (RDBCMM, commit, held(1).as_slice(), DONE.as_slice()),
-        (
-            OPNQRY,
-            section(OPNQRY).as_slice(),
-            not_prepared.as_slice(),
-            [].as_slice(),
-        ),
-        (
-            CNTQRY,
-            section(CNTQRY).as_slice(),
-            second.as_slice(),
-            [].as_slice(),
-        ),
-        (
-            CNTQRY,
-            section(CNTQRY).as_slice(),
-            ended.as_slice(),
-            end.as_slice(),
-        ),
-        (
-            CNTQRY,
-            section(CNTQRY).as_slice(),
-            not_open.as_slice(),
-            [].as_slice(),
-        ),
-        (
-            CLSQRY,
-            section(CLSQRY).as_slice(),
-            not_open.as_slice(),
-            [].as_slice(),
-        ),
-    ] {
-        let replies = ask(&mut store, &mut unit, alloc, code, body)?;
-        assert!(rt;
-            are_two(&replies, wanted, behind),
-            "what a cursor is answered"
-        );
-    }
-    prepare_held(&mut store, &mut unit, alloc)?;
-    for (code, body, wanted, behind) in [
-        (
-            OPNQRY,
-            section(OPNQRY).as_slice(),
-            opened.as_slice(),
-            [].as_slice(),
-        ),
-        (RDBRLLBCK, roll_back, held(2).as_slice(), DONE.as_slice()),
-        (
-            CNTQRY,
-            section(CNTQRY).as_slice(),
-            not_open.as_slice(),
-            [].as_slice(),
-        ),
-    ] {
-        let replies = ask(&mut store, &mut unit, alloc, code, body)?;
-        assert!(rt;
-            are_two(&replies, wanted, behind),
-            "a roll back drops what is held"
-        );
-    }
+fn rows_are_told(rt: HostRuntime) -> Result<(), Fail> {
+    let mut group = store(rt.alloc())?;
+    assert!(rt; group.add_row(b"AL", 9, b"")?);
+    assert!(rt; !group.add_row(b"ALICE", 1, b"B")?);
+    assert!(rt; !group.add_user(b"ALICE ", b"OTHER")?);
+    let rows = group.rows()?;
+    let row = rows.get(1).ok_or("a second row")?;
+    assert_eq!(rt; (rows.len(), row.key), (2, 1));
+    assert_eq!(rt; row.schema.as_slice(), b"ALICE".as_slice());
+    assert_eq!(rt; row.text.as_slice(), b"A".as_slice());
     Ok(())
 }
 
-/// The SQLSTTs behind the end of a unit, where R10 and CURRENT SCHEMA are set.
-const SETS: [u8; 71] = [
-    0x00, 0x2A, 0xD0, 0x53, 0x00, 0x01, 0x00, 0x24, 0x24, 0x14, 0x00, 0x00, 0x00, 0x00, 0x1A, 0xE2,
-    0xC5, 0xE3, 0x40, 0xC3, 0xE4, 0xD9, 0xD9, 0xC5, 0xD5, 0xE3, 0x40, 0xE2, 0xC3, 0xC8, 0xC5, 0xD4,
-    0xC1, 0x40, 0x7E, 0x40, 0x7D, 0xE2, 0xF1, 0xF1, 0x7D, 0xFF, 0x00, 0x1D, 0xD0, 0x03, 0x00, 0x01,
-    0x00, 0x17, 0x24, 0x14, 0x00, 0x00, 0x00, 0x00, 0x0D, 0xE2, 0xC5, 0xE3, 0x40, 0xD9, 0xF1, 0xF0,
-    0x40, 0x7E, 0x40, 0x7D, 0x81, 0x7D, 0xFF,
+// ---- cursors
+
+/// A cursor that is held is fetched on behind a commit, which isn't granted release, to its end; a roll back drops another.
+const FETCHES: [Round; 17] = [
+    (EXECUTE, &[(SQLSTT, "INSERT INTO T VALUES (7, 'b')")], DONE),
+    (OPEN, &[], NOT_PREPARED),
+    HOLDS,
+    (OPEN, &[], OPENED),
+    (OPEN, &[], CURSOR_OPEN),
+    (FETCH, &[], "0014D0030001000E241BFF0000000001000001C1"),
+    (
+        COMMIT,
+        &[],
+        "0015D0520001000F220C0006114900040005211501000BD003000100052408FF",
+    ),
+    (OPEN, &[], NOT_PREPARED),
+    (FETCH, &[], "0014D0030001000E241BFF000000000700000182"),
+    (
+        FETCH,
+        &[],
+        "0010D0520001000A220B000611490004001ED0030001001824080000000064F0F2F0F0F04040404040404040FFFF",
+    ),
+    (FETCH, &[], NOT_OPEN),
+    (CLOSE, &[], NOT_OPEN),
+    HOLDS,
+    (OPEN, &[], OPENED),
+    (
+        ROLL_BACK,
+        &[],
+        "0015D0520001000F220C0006114900040005211502000BD003000100052408FF",
+    ),
+    (FETCH, &[], NOT_OPEN),
+    (COMMIT, &[], GRANTED),
 ];
 
-/// Registers are told in their order, and one EXCSQLSET with these statements sets them again on another unit.
 #[test]
-fn registers_are_told(rt: HostRuntime) -> Result<(), Fail> {
-    let alloc = rt.alloc();
-    let mut store = store(alloc)?;
-    let mut unit = accessed(&mut store, alloc)?;
-    state(&mut store, &mut unit, alloc, EXCSQLSET, b"SET R10 = 'a'")?;
-    state(
-        &mut store,
-        &mut unit,
-        alloc,
-        EXCSQLSET,
-        b"SET CURRENT SCHEMA = 'S11'",
-    )?;
-    let told = ask(&mut store, &mut unit, alloc, RDBCMM, &COMMIT)?;
-    let mut other = accessed(&mut store, alloc)?;
-    let mut objects = Sequence::new(alloc);
-    objects.push(text_object(alloc, [0x24, 0x14], b"SET CURRENT SCHEMA = 'S11'")?)?;
-    objects.push(text_object(alloc, [0x24, 0x14], b"SET R10 = 'a'")?)?;
-    exec(
-        &mut store,
-        &mut other,
-        alloc,
-        EXCSQLSET,
-        &section(EXCSQLSET),
-        objects,
-    )?;
-    let again = ask(&mut store, &mut other, alloc, RDBCMM, &COMMIT)?;
-    assert_eq!(rt; told.as_slice(), again.as_slice());
-    assert!(rt;
-        told.as_slice().strip_suffix(SETS.as_slice()).is_some(),
-        "in their order"
-    );
+fn cursors_are_fetched(rt: HostRuntime) -> Result<(), Fail> {
+    let count = answered_behind_access(rt.alloc(), &FETCHES)?;
+    assert_eq!(rt; count, FETCHES.len());
     Ok(())
 }
 
-/// A password that is another, or is missing; a user who isn't known.
+// ---- registers
+
+/// A commit that tells CURRENT SCHEMA and R10.
+const TOLD: Round = (
+    COMMIT,
+    &[],
+    "001AD05200010014220C00061149000400052115010005119FF2000BD053000100052408FF\
+     002AD053000100242414000000001AE2C5E340C3E4D9D9C5D5E340E2C3C8C5D4C1407E407DE2F1F17DFF\
+     001DD003000100172414000000000DE2C5E340D9F1F0407E407D817DFF",
+);
+
+/// Registers are told in their order, whatever the order in which they were set.
+const REGISTERS: [Round; 3] = [
+    (SET, &[(SQLSTT, "SET R10 = 'a'")], DONE),
+    (SET, &[(SQLSTT, "SET CURRENT SCHEMA = 'S11'")], DONE),
+    TOLD,
+];
+
+/// Another conversation sets them again by one EXCSQLSET.
+const REGISTERS_AGAIN: [Round; 2] = [
+    (
+        SET,
+        &[
+            (SQLSTT, "SET CURRENT SCHEMA = 'S11'"),
+            (SQLSTT, "SET R10 = 'a'"),
+        ],
+        DONE,
+    ),
+    TOLD,
+];
+
 #[test]
-fn users_are_checked(rt: HostRuntime) -> Result<(), Fail> {
-    let mut store = store(rt.alloc())?;
-    for (body, code) in [
-        (
-            [
-                0x00, 0x1E, 0x10, 0x6E, 0x00, 0x06, 0x11, 0xA2, 0x00, 0x03, 0x00, 0x09, 0x11, 0xA0,
-                0xC1, 0xD3, 0xC9, 0xC3, 0xC5, 0x00, 0x0B, 0x11, 0xA1, 0xE2, 0xC5, 0xC3, 0xD9, 0xC5,
-                0xE3, 0x40,
-            ]
-            .as_slice(),
-            0x0F,
-        ),
-        (&USER[..10], 0x13),
-        (
-            [
-                0x00, 0x13, 0x10, 0x6E, 0x00, 0x06, 0x11, 0xA2, 0x00, 0x03, 0x00, 0x09, 0x11, 0xA0,
-                0xC1, 0xD3, 0xC9, 0xC3, 0xC5,
-            ]
-            .as_slice(),
-            0x0F,
-        ),
-        (
-            [
-                0x00, 0x14, 0x10, 0x6E, 0x00, 0x06, 0x11, 0xA2, 0x00, 0x04, 0x00, 0x0A, 0x11, 0xA0,
-                0xC1, 0xD3, 0xC9, 0xC3, 0xC5, 0x40,
-            ]
-            .as_slice(),
-            0x00,
-        ),
-    ] {
-        let mut unit = store.fresh()?;
-        ask(&mut store, &mut unit, rt.alloc(), EXCSAT, &HELLO)?;
-        ask(&mut store, &mut unit, rt.alloc(), ACCSEC, &MECHANISM)?;
-        let replies = ask(&mut store, &mut unit, rt.alloc(), SECCHK, body)?;
-        assert_eq!(rt; replies.as_slice().last().copied(), Some(code));
-    }
-    assert!(rt; !store.add_user(b"ALICE ", b"OTHER")?, "the name is there");
-    assert!(rt; !store.add_row(b"ALICE", 1, b"B")?, "the row is there");
+fn registers_are_told(rt: HostRuntime) -> Result<(), Fail> {
+    assert_eq!(rt; answered_behind_access(rt.alloc(), &REGISTERS)?, 3);
+    assert_eq!(rt; answered_behind_access(rt.alloc(), &REGISTERS_AGAIN)?, 2);
     Ok(())
 }
