@@ -246,6 +246,25 @@ fn access_is_refused(rt: HostRuntime) -> Result<(), Fail> {
     Ok(())
 }
 
+/// A length below 6 is answered SYNTAXRM, and what follows isn't answered.
+#[test]
+fn faults_end_a_conversation(rt: HostRuntime) -> Result<(), Fail> {
+    let alloc = rt.alloc();
+    let mut group = store(alloc)?;
+    let mut conversation = begun(alloc, &group)?;
+    let replies = bytes(alloc, "0015D0020000000F124C0006114900080005114A01")?;
+    assert!(rt;
+        answers(
+            &mut group,
+            &mut conversation,
+            &[0x00, 0x05],
+            replies.as_slice()
+        )?
+    );
+    assert!(rt; answers(&mut group, &mut conversation, &[0x00, 0x05], &[])?);
+    Ok(())
+}
+
 // ---- statements
 
 /// Statements and their SQLCARDs, of which the last two see another schema; EXCSQLIMM without a statement.

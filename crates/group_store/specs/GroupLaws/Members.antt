@@ -77,6 +77,12 @@ wherever place other bytes found e =
 no_header : (bytes : List ℕ) (found : Found) → object_at 0 bytes ≡ Ok found → length bytes < 4 → ⊥
 no_header bytes found e short = absurd (omega (arith, (object_found 0 bytes found e).header, short))
 
+fits_more : (held more : List ℕ) (size : ℕ) → length held ≡ size → size ≤ length (held ++ more)
+fits_more held more size e = omega (arith, length-append held more)
+
+four : (a b c d : ℕ) (rest : List ℕ) → 4 ≤ length (a ∷ b ∷ c ∷ d ∷ rest)
+four a b c d rest = omega arith
+
 pub object_moved : (place : ℕ) (bytes more : List ℕ) (found : Found) → object_at 0 bytes ≡ Ok found
     → object_at place (take (length bytes - length found.rest) bytes ++ more) ≡ Ok (record { object = found.object; rest = more })
 object_moved place [] more found e = absurd (no_header [] found e (omega arith))
@@ -108,8 +114,8 @@ object_moved place (a ∷ b ∷ c ∷ d ∷ body) more found e =
     (subst (λ (xs : List ℕ). IsMeasured form (big_number 2 bytes) xs extent) (sym parts) m.1) (omega (arith, front_size)) in
     let same : held ≡ take size extent.from = drop-take h size body ∙ ap (take size) (sym s.from) in
     ap (λ (xs : List ℕ). object_at place (xs ++ more)) taken
-    ∙ accepted place (a ∷ b ∷ c ∷ d ∷ front ++ more) (record { size = size; from = held ++ more }) (omega arith) moved
-    (omega (arith, length-append held more, held_size))
+    ∙ accepted place (a ∷ b ∷ c ∷ d ∷ front ++ more) (record { size = size; from = held ++ more })
+    (four a b c d (front ++ more)) moved (fits_more held more size held_size)
     ∙ ap (λ (xs : List ℕ). Ok (record { object = record { code = big_number 2 (c ∷ d ∷ []); bytes = xs }; rest = drop size (held ++ more) }))
     (take_at held more size held_size ∙ same)
     ∙ ap (λ (xs : List ℕ). Ok (record { object = record { code = big_number 2 (c ∷ d ∷ []); bytes = take size extent.from }; rest = xs }))
