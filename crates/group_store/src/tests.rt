@@ -52,11 +52,9 @@ fn chain_of(alloc: Global, command: &str, texts: &[Text]) -> Result<Octets, Fail
     let mut chain = Octets::new(alloc);
     let command = bytes(alloc, command)?;
     put(&mut chain, 0x01, !texts.is_empty(), command.as_slice())?;
-    let mut left = texts;
-    while let Some(((code, text), rest)) = left.split_first() {
+    for (index, (code, text)) in texts.iter().enumerate() {
         let object = text_object(alloc, *code, text)?;
-        put(&mut chain, 0x03, !rest.is_empty(), object.as_slice())?;
-        left = rest;
+        put(&mut chain, 0x03, index + 1 < texts.len(), object.as_slice())?;
     }
     Ok(chain)
 }
