@@ -1,4 +1,4 @@
-ghost use Rattle.std.specs.Prelude.{◌≡◌, ◌==◌, ◌+◌, ◌≤◌, ◌&&◌, not, nat_lt, nat_le, [], length, position, Ok, IfOk, IfErr, OnOk, OnErr};
+ghost use Rattle.std.specs.Prelude.{◌≡◌, ◌==◌, ◌+◌, ◌≤◌, ◌&&◌, not, nat_lt, nat_le, [], length, Ok, IfOk, IfErr, OnOk, OnErr};
 ghost use Rattle.unit_segments.specs.Registers.{most_registers, most_text, set_of, equals_sign, key_of, has_key, with_register, with_set};
 ghost use Rattle.unit_segments.specs.Registers.{set_command, log_bytes, IsRefusal};
 ghost use Rattle.std.specs.List.{before_first};
@@ -8,6 +8,7 @@ ghost use Rattle.unit_segments.specs.Kept.{most_statement};
 ghost use Rattle.unit_segments.specs.declared.registers.RegisterFault.TheVariants.{NoMemory as OutOfMemory};
 
 use crate::command::Command;
+use crate::share::share;
 use crate::statement::{Statement, statement_of};
 use crate::write::write_chain;
 use bytes::Bytes;
@@ -82,6 +83,23 @@ impl RegisterLog {
         ensures most { result ≤ most_registers }
     {
         self.statements.len()
+    }
+
+    /// A log with the same registers, which goes on by itself: what is added to either isn't added to the other. Long
+    /// statements are shared.
+    pub fn copy(&self) -> Result<RegisterLog, NoMemory>
+        ensures { IfOk result (λ log. log ≡ self.now) }
+    {
+        let mut statements = IndexMap::new(self.alloc);
+        let mut left = self.statements.as_slice();
+        while let Some(((key, statement), rest)) = left.split_first() {
+            statements.insert(key.clone()?, share(statement)?)?;
+            left = rest;
+        }
+        Ok(RegisterLog {
+            alloc: self.alloc,
+            statements,
+        })
     }
 
     /// Adds the SET statement that the data of a SQLSTT are, in a type definition of the application's. A register that is set
@@ -199,17 +217,10 @@ fn key_of(alloc: Global, sqlstt: &[u8], typdef: TypDef) -> Result<Bytes, NoMemor
 fn before(text: &[u8], sign: u8) -> &[u8]
     ensures { result.now ≡ before_first (λ byte. byte == sign) text.now }
 {
-    match place_of(text, sign) {
+    match text.iter().position(|byte| *byte == sign) {
         Some(end) => &text[..end],
         None => text,
     }
-}
-
-/// The first place of a byte, from 0.
-fn place_of(bytes: &[u8], sign: u8) -> Option<usize>
-    ensures { result ≡ position (λ byte. byte == sign) bytes.now }
-{
-    bytes.iter().position(|byte| *byte == sign)
 }
 
 /// The byte of an equals sign.
