@@ -1,4 +1,4 @@
-ghost use Rattle.std.specs.Prelude.{◌≡◌, ◌==◌, ◌+◌, ◌≤◌, ◌&&◌, not, nat_lt, nat_le, [], length, Ok, IfOk, IfErr, OnOk, OnErr};
+ghost use Rattle.std.specs.Prelude.{◌≡◌, ◌==◌, ◌+◌, ◌≤◌, ◌&&◌, not, nat_lt, nat_le, [], length, position, Ok, IfOk, IfErr, OnOk, OnErr};
 ghost use Rattle.unit_segments.specs.Registers.{most_registers, most_text, set_of, equals_sign, key_of, has_key, with_register, with_set};
 ghost use Rattle.unit_segments.specs.Registers.{set_command, log_bytes, IsRefusal};
 ghost use Rattle.std.specs.List.{before_first};
@@ -217,10 +217,17 @@ fn key_of(alloc: Global, sqlstt: &[u8], typdef: TypDef) -> Result<Bytes, NoMemor
 fn before(text: &[u8], sign: u8) -> &[u8]
     ensures { result.now ≡ before_first (λ byte. byte == sign) text.now }
 {
-    match text.iter().position(|byte| *byte == sign) {
+    match place_of(text, sign) {
         Some(end) => &text[..end],
         None => text,
     }
+}
+
+/// The first place of a byte, from 0.
+fn place_of(bytes: &[u8], sign: u8) -> Option<usize>
+    ensures { result ≡ position (λ byte. byte == sign) bytes.now }
+{
+    bytes.iter().position(|byte| *byte == sign)
 }
 
 /// The byte of an equals sign.
