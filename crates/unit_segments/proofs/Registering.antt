@@ -1,8 +1,8 @@
 -- A log of registers is kept in a map.
-use Rattle.std.proofs.Common.{◌≡◌, ℕ, suc, ◌+◌, ◌<◌, ◌≤◌, ◌==◌, Bool, true, false, not, cond, ◌&&◌, ◌||◌, if◌then◌else◌, List, [], ◌∷◌, ◌++◌, length}
-use Rattle.std.proofs.Common.{map, is_some, nat_eq, nat_lt, nat_le, Option, Some, None, Result, Ok, Err, refl, sym, ap, ◌∙◌, subst, arith, true≢false}
+use Rattle.std.proofs.Common.{◌≡◌, ℕ, ◌+◌, ◌<◌, ◌≤◌, Bool, true, false, not, cond, ◌&&◌, if◌then◌else◌, List, [], ◌∷◌, ◌++◌, length}
+use Rattle.std.proofs.Common.{map, is_some, nat_eq, nat_lt, nat_le, Ok, Err, refl, sym, ap, ◌∙◌, subst, arith}
 use Rattle.std.specs.Prelude.{bytes_eq}
-use Rattle.std.specs.List.{AllByRecursion, IsDistinct, list_any}
+use Rattle.std.specs.List.{AllByRecursion, IsDistinct}
 use Rattle.std.specs.Map.{lookup, keys_of}
 use Rattle.std.specs.Cmp.Lexicographic.{pointwise, same_text}
 use Rattle.std.proofs.lemmas.Cmp.{nat_list_eq_equiv}
@@ -11,7 +11,6 @@ use Rattle.indexmap.specs.IndexMap.{insert_entry}
 use Rattle.ddm_objects.specs.Objects.{canonical_object}
 use Rattle.ddm_codepoints.specs.declared.typdef.TypDef.{TypDef}
 use Rattle.ddm_codepoints.specs.CodePoint.{sqlstt}
-use Rattle.unit_segments.specs.declared.registers.RegisterFault.{RegisterFault}
 use Rattle.unit_segments.specs.declared.registers.RegisterFault.TheVariants.{TooMany, TooLong}
 use Rattle.unit_segments.specs.Registers.{Register, most_registers, most_text, set_of, key_of, has_key, with_register, with_set}
 use Rattle.std.proofs.lemmas.Bool.{leb-false, ltb-false}

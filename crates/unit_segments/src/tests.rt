@@ -490,15 +490,15 @@ fn asks(rt: HostRuntime) -> Result<(), Fail> {
     Ok(())
 }
 
-/// The replies to RDBCMM with number 5: what is joined of them, and whether the unit ended, was released, and the rest of the
-/// chain isn't run.
+/// The replies to RDBCMM with number 5: what is joined of them, and whether the unit ended, was committed and released, and the
+/// rest of the chain isn't run.
 #[test]
 fn strips(rt: HostRuntime) -> Result<(), Fail> {
     let commit = [0x00, 0x0A, 0xD0, 0x01, 0x00, 0x05, 0x00, 0x04, 0x20, 0x0E];
     let segments = segments_of(rt.alloc(), &commit)?;
     let segment = segments.get(0).ok_or("a segment")?;
     let null = [0x00, 0x05, 0x24, 0x08, 0xFF];
-    for (message, kept, granted, stop) in [
+    for (message, kept, committed, granted, stop) in [
         // Granted, as a member sends it.
         (
             [
@@ -511,6 +511,7 @@ fn strips(rt: HostRuntime) -> Result<(), Fail> {
                 0x01,
             ]
             .as_slice(),
+            true,
             true,
             false,
         ),
@@ -528,6 +529,7 @@ fn strips(rt: HostRuntime) -> Result<(), Fail> {
             .as_slice(),
             false,
             false,
+            false,
         ),
         (
             [
@@ -537,11 +539,13 @@ fn strips(rt: HostRuntime) -> Result<(), Fail> {
             [0x00, 0x04, 0x22, 0x0C].as_slice(),
             false,
             false,
+            false,
         ),
         // An error.
         (
             [0x00, 0x0A, 0x22, 0x0C, 0x00, 0x06, 0x11, 0x49, 0x00, 0x08].as_slice(),
             [0x00, 0x0A, 0x22, 0x0C, 0x00, 0x06, 0x11, 0x49, 0x00, 0x08].as_slice(),
+            false,
             false,
             true,
         ),
@@ -557,11 +561,13 @@ fn strips(rt: HostRuntime) -> Result<(), Fail> {
             .as_slice(),
             false,
             false,
+            false,
         ),
         // Data to the end are written anew with their length.
         (
             [0x80, 0x04, 0x22, 0x0C, 0x00, 0x05, 0x21, 0x15, 0x01].as_slice(),
             [0x00, 0x09, 0x22, 0x0C, 0x00, 0x05, 0x21, 0x15, 0x01].as_slice(),
+            true,
             false,
             false,
         ),
@@ -576,8 +582,13 @@ fn strips(rt: HostRuntime) -> Result<(), Fail> {
         assert_eq!(rt; first.corr, 5);
         assert_eq!(rt; first.body.as_slice(), kept);
         assert_eq!(rt;
-            (stripped.ended, stripped.granted, stripped.stop),
-            (true, granted, stop)
+            (
+                stripped.ended,
+                stripped.committed,
+                stripped.granted,
+                stripped.stop
+            ),
+            (true, committed, granted, stop)
         );
         assert!(rt; stripped.list.is_none());
         assert_eq!(rt; stripped.sets.len(), 0);
