@@ -1,5 +1,5 @@
 -- Segments one after another, what runs again where that is nothing, and what an answer makes of the core.
-use Rattle.std.proofs.Common.{◌≡◌, ℕ, zero, suc, ◌+◌, ◌==◌, ◌||◌, Bool, true, false, if◌then◌else◌, List, [], ◌∷◌, ◌++◌, drop, Option, Some, None, refl}
+use Rattle.std.proofs.Common.{◌≡◌, ℕ, zero, suc, ◌+◌, ◌==◌, ◌||◌, Bool, true, false, if◌then◌else◌, List, [], ◌∷◌, ◌++◌, drop, Some, None, refl}
 use Rattle.std.proofs.Common.{sym, ap, subst, ◌∙◌, slice_get, add-one, true≢false}
 use Rattle.std.specs.List.{AllByRecursion}
 use Rattle.std.proofs.lemmas.Bool.{cond_both}
@@ -12,12 +12,11 @@ use Rattle.plain_model.specs.Lost.{message}
 use Rattle.ddm_codepoints.specs.CodePoint.{secchk, accrdb}
 use Rattle.unit_segments.specs.declared.command.Command.{Command}
 use Rattle.unit_segments.specs.declared.stripped.Stripped.{Stripped}
-use Rattle.unit_segments.specs.Segment.{goes_on_a_run}
 use Rattle.unit_segments.specs.Spelling.{chain_bytes}
 use Rattle.plain_model.specs.Standing.{Standing, after_secchk, after_accrdb, after_end}
 use Rattle.plain_model.specs.Group.{IsCommand}
 use Rattle.plain_model.specs.Local.{is_local, answered_locally}
-use Rattle.plain_model.specs.Core.{Core, Owed, Nothing, Rerouted, Unknown, Settled, first, others, first_number, still, moved_too, with_local}
+use Rattle.plain_model.specs.Core.{Core, Owed, Nothing, Rerouted, Unknown, first, others, first_number, still, moved_too, with_local}
 use Rattle.plain_model.specs.Core.{settle_by, settle_segments, settle_owed, settled, finish_by, finished}
 use Rattle.plain_model.specs.Answered.{fit, is_work, joins_again, with_work, with_end, with_replies, standing_after, unit_after, answered_core}
 use Rattle.session_core.specs.SeenAnswer.{left_by}

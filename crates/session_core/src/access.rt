@@ -1,7 +1,8 @@
 ghost use Rattle.std.specs.Prelude.{◌≡◌, IfOk};
+ghost use Rattle.std.specs.List.{list_any};
 ghost use Rattle.ddm_codepoints.specs.CodePoint.{secchkrm};
 ghost use Rattle.unit_segments.specs.Command.{data_of};
-ghost use Rattle.unit_segments.specs.Strip.{is_object_of};
+ghost use Rattle.unit_segments.specs.Strip.{is_object_of, tells_error};
 ghost use Rattle.unit_segments.specs.Accepts.{gives_admission, is_admission, has_accrdbrm, is_success, is_good_card, sets_only};
 ghost use Rattle.plain_model.specs.Group.{told_typdef};
 ghost use Rattle.plain_model.specs.Answered.{without_error};
@@ -79,7 +80,14 @@ pub(crate) fn told_typdef(
 pub(crate) fn without_error(replies: &[Dss]) -> bool
     ensures { result ≡ without_error replies.now }
 {
-    !replies.iter().any(|reply| tells_error(reply))
+    !tell_error(replies)
+}
+
+/// Whether one of these replies tells an error.
+fn tell_error(replies: &[Dss]) -> bool
+    ensures { result ≡ list_any tells_error replies.now }
+{
+    replies.iter().any(|reply| tells_error(reply))
 }
 
 /// Whether these commands set registers alone, and each was answered by just one SQLCARD that tells no error.
