@@ -1,0 +1,4 @@
+mod Sound
+mod Spans
+mod Registers
+mod TakingBack

@@ -1,0 +1,13 @@
+pub mod Rows
+pub mod Commit
+pub mod Unit
+pub mod Answered
+pub mod Statement
+pub mod Access
+pub mod Execute
+pub mod Query
+pub mod UnitEnd
+pub mod Store
+pub mod Setup
+pub mod Values
+pub mod GroupLaws
