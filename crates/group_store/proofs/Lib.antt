@@ -1,4 +1,3 @@
 mod Sound
-mod Spans
 mod Registers
 mod TakingBack

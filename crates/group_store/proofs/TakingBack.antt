@@ -53,7 +53,7 @@ module _ {K X : Type 0} (cmp : K → K → Ordering) (k : K) (same : cmp k k ≡
 
 -- ---- places
 
-pub equal_from : (o : Ordering) → o ≡ ordering_reverse o → o ≡ Equal
+equal_from : (o : Ordering) → o ≡ ordering_reverse o → o ≡ Equal
 equal_from Less is = absurd (grind (arith, is))
 equal_from Equal is = refl
 equal_from Greater is = absurd (grind (arith, is))

@@ -1,6 +1,6 @@
 -- The rows of the group's one table, and what a unit of work writes over them. DRDA, volume 1, units of work; the table, its
 -- schemas and the numbers of commits are this project's own.
-use Rattle.std.specs.Prelude.{ℕ, Bool, if◌then◌else◌, List, [], ◌∷◌, ◌++◌, bytes_eq, nat_lt, unwrap_or}
+use Rattle.std.specs.Prelude.{ℕ, Bool, if◌then◌else◌, List, [], ◌∷◌, bytes_eq, nat_lt, unwrap_or}
 use Rattle.std.specs.Prelude.{Option, Some, None, option_map, option_and_then}
 use Rattle.std.specs.List.{list_any}
 use Rattle.std.specs.Ordering.{nat_cmp, ordering_then}
@@ -16,10 +16,6 @@ use Rattle.group_store.specs.declared.rows.Row.{Row}
 -- by the bytes of the schema, then by key
 abbrev pub place_order : Place → Place → Ordering
 place_order a b = ordering_then (slice_cmp nat_cmp a.schema b.schema) (nat_cmp a.key b.key)
-
--- the first place behind all those of a schema
-abbrev pub place_behind : List ℕ → Place
-place_behind schema = record { schema = schema ++ 0 ∷ []; key = 0 }
 
 -- ---- the group's rows: each place that was ever written, in order
 

@@ -1,5 +1,5 @@
 ghost use Rattle.std.specs.Prelude.{◌≡◌, IfOk, OnOk};
-ghost use Rattle.group_store.specs.Rows.{conflicts, number_at, place_behind, with_text, rows_seen};
+ghost use Rattle.group_store.specs.Rows.{conflicts, number_at, with_text, rows_seen};
 ghost use Rattle.group_store.specs.Unit.{schema_of};
 
 use crate::store::Store;
@@ -7,7 +7,6 @@ use crate::text::Text;
 use crate::unit::StoreUnit;
 use bytes::Bytes;
 use link_ends::{NoMemory, Octets, Sequence};
-use std::alloc::Global;
 use std::collections::BTreeMap;
 
 /// Where a row stands: its schema, in ASCII, and its key in there.
@@ -74,9 +73,8 @@ impl Store {
         ensures { IfOk result (λ seen. seen.entries ≡ rows_seen (schema_of unit.now) self.now.rows unit.now.writes) }
     {
         let schema = unit.schema();
-        let places = unit.place(0)?..place_behind(self.alloc, schema)?;
         let mut seen = BTreeMap::new(self.alloc);
-        for (place, version) in self.rows.range(places) {
+        for (place, version) in &self.rows {
             if place.schema.as_slice() == schema {
                 put(&mut seen, place.key, &version.text)?;
             }
@@ -88,18 +86,6 @@ impl Store {
         }
         Ok(seen)
     }
-}
-
-/// The first place behind those of a schema.
-fn place_behind(alloc: Global, schema: &[u8]) -> Result<Place, NoMemory>
-    ensures { IfOk result (λ place. place ≡ place_behind schema.now) }
-{
-    let mut longer = Vec::from_slice(alloc, schema)?;
-    longer.push(0)?;
-    Ok(Place {
-        schema: Bytes::copy_from_slice(alloc, longer.as_slice())?,
-        key: 0,
-    })
 }
 
 /// Puts a text at its key, or takes out what is there.
