@@ -11,22 +11,70 @@ use std::test::Fail;
 
 // ---- rounds
 
-/// An object's code point, SQLSTT or SQLATTR, and its text.
-type Text = (u16, &'static str);
+// A round is a line of four fields, parted by `|`: which conversation, 1 or 2; a command alone in its chain; the texts of the
+// objects behind it, parted by `;`, of which WITH HOLD is a SQLATTR, and others are SQLSTTs; and its replies. Commands and replies
+// are names, or bytes in digits; behind `=` the bytes are the chain itself.
 
-/// A command alone in its chain, the objects behind it, and its replies. Bytes are in hexadecimal digits.
-type Round = (&'static str, &'static [Text], &'static str);
+/// Commands and replies by their names, in hexadecimal digits: RDBCMM that asks for release and for SET statements, RDBRLLBCK
+/// that asks for nothing; EXCSQLIMM, EXCSQLSET, PRPSQLSTT, OPNQRY, CNTQRY and CLSQRY of section 5; SQLCARDs; a commit with release
+/// granted, one that tells CURRENT SCHEMA and R10, a conflict with release granted; PRCCNVRM, QRYNOPRM, and what opens a cursor; EXCSAT
+/// and ACCSEC, and what they are answered.
+const NAMES: &str = "\
+COMMIT 000E200E0005119FF20005210EF1
+ROLL_BACK 0004200F
+EXECUTE 000A200A000621130005
+SET 000A2014000621130005
+PREPARE 000A200D000621130005
+OPEN 000A200C000621130005
+FETCH 000A2006000621130005
+CLOSE 000A2005000621130005
+HELLO 001C1041001814041403000724070007240F00071440000714740005
+MECHANISM 000A106D000611A20003
+DONE 000BD003000100052408FF
+DUPLICATE 001ED00300010018240800FFFFFCDDF2F3F5F0F54040404040404040FFFF
+NOT_FOUND 001ED0030001001824080000000064F0F2F0F0F04040404040404040FFFF
+NO_STATEMENT 001ED00300010018240800FFFFFF98F4F2F6F0F14040404040404040FFFF
+NOT_PREPARED 001ED00300010018240800FFFFFDFEF2F6F5F0F14040404040404040FFFF
+CURSOR_OPEN 001ED00300010018240800FFFFFE0AF2F4F5F0F24040404040404040FFFF
+GRANTED 001AD05200010014220C00061149000400052115010005119FF2000BD003000100052408FF
+TOLD 001AD05200010014220C00061149000400052115010005119FF2000BD053000100052408FF\
+002AD05300010024241400000000\
+1AE2C5E340C3E4D9D9C5D5E340E2C3C8C5D4C1407E407DE2F1F17DFF\
+001DD003000100172414000000000DE2C5E340D9F1F0407E407D817DFF
+CONFLICT 001AD05200010014220C00061149000400052115020005119FF2\
+001ED00300010018240800FFFFFC71F4F0F0F0F14040404040404040FFFF
+NOT_ALLOWED 0010D0020001000A1245000611490008
+NOT_OPEN 0010D0020001000A2202000611490004
+OPENED 0010D0520001000A2205000611490000001CD00300010016241A0976D00200043F00C80971E0540001D00001
+CHOSEN 0010D0030001000A14AC000611A20003
+LEVELS 0022D0030001001C1443001814041403000724070007240F00071440000714740005";
 
-/// The bytes that digits spell.
-fn bytes(alloc: Global, digits: &str) -> Result<Octets, Fail> {
-    match read_hex(alloc, digits.as_bytes())? {
+/// The digits with this name, or else the word itself.
+fn digits_of(word: &str) -> &str {
+    for line in NAMES.lines() {
+        if let Some((name, digits)) = line.split_once(' ') {
+            if name == word {
+                return digits;
+            }
+        }
+    }
+    word
+}
+
+/// The bytes with this name, or those that its digits spell; none of an empty word.
+fn bytes(alloc: Global, word: &str) -> Result<Octets, Fail> {
+    if word.is_empty() {
+        return Ok(Octets::new(alloc));
+    }
+    match read_hex(alloc, digits_of(word).as_bytes())? {
         Some(bytes) => Ok(bytes),
         None => Err(Fail::from("digits")),
     }
 }
 
 /// An object with this text in EBCDIC, of fewer than 256 bytes.
-fn text_object(alloc: Global, code: u16, text: &str) -> Result<Octets, Fail> {
+fn text_object(alloc: Global, text: &str) -> Result<Octets, Fail> {
+    let code = if text == "WITH HOLD" { SQLATTR } else { SQLSTT };
     let mut coded = Vec::from_slice(alloc, text.as_bytes())?;
     encode(&mut coded, TypDef::Sql370);
     let size = u8::try_from(text.len())?;
@@ -47,45 +95,39 @@ fn put(chain: &mut Octets, kind: u8, follow: bool, body: &[u8]) -> Result<(), Fa
     Ok(())
 }
 
-/// The chain of a command with these objects.
-fn chain_of(alloc: Global, command: &str, texts: &[Text]) -> Result<Octets, Fail> {
+/// Appends the objects with these texts.
+fn put_texts(alloc: Global, chain: &mut Octets, texts: &str) -> Result<(), Fail> {
+    match texts.split_once(';') {
+        Some((text, last)) => {
+            put(chain, 0x03, true, text_object(alloc, text)?.as_slice())?;
+            put(chain, 0x03, false, text_object(alloc, last)?.as_slice())
+        }
+        None => put(chain, 0x03, false, text_object(alloc, texts)?.as_slice()),
+    }
+}
+
+/// The chain of a command with these objects, two at most.
+fn chain_of(alloc: Global, command: &str, texts: &str) -> Result<Octets, Fail> {
+    if let Some(chain) = command.strip_prefix('=') {
+        return bytes(alloc, chain);
+    }
     let mut chain = Octets::new(alloc);
     let command = bytes(alloc, command)?;
-    put(&mut chain, 0x01, !texts.is_empty(), command.as_slice())?;
-    for (index, (code, text)) in texts.iter().enumerate() {
-        let object = text_object(alloc, *code, text)?;
-        put(&mut chain, 0x03, index + 1 < texts.len(), object.as_slice())?;
+    if texts.is_empty() {
+        put(&mut chain, 0x01, false, command.as_slice())?;
+    } else {
+        put(&mut chain, 0x01, true, command.as_slice())?;
+        put_texts(alloc, &mut chain, texts)?;
     }
     Ok(chain)
 }
 
-/// Whether a conversation that takes this chain answers it with these replies.
-fn answers(
-    group: &mut Store,
-    conversation: &mut Conversation<Store>,
-    chain: &[u8],
-    replies: &[u8],
-) -> Result<bool, Fail> {
-    let before = conversation.out().len();
-    conversation.take(group, chain)?;
-    Ok(conversation.out().get(before..) == Some(replies))
-}
-
-/// How many rounds, from the first on, a conversation answers as they say.
-fn answered(
-    alloc: Global,
-    group: &mut Store,
-    conversation: &mut Conversation<Store>,
-    rounds: &[Round],
-) -> Result<usize, Fail> {
-    for (count, (command, texts, replies)) in rounds.iter().enumerate() {
-        let chain = chain_of(alloc, command, texts)?;
-        let replies = bytes(alloc, replies)?;
-        if !answers(group, conversation, chain.as_slice(), replies.as_slice())? {
-            return Ok(count);
-        }
-    }
-    Ok(rounds.len())
+/// A group with the user ALICE and a row with key 1, and two conversations with it.
+#[derive(Drop)]
+struct Scene {
+    group: Store,
+    first: Conversation<Store>,
+    second: Conversation<Store>,
 }
 
 /// A store with the user ALICE, and a row with key 1.
@@ -101,264 +143,171 @@ fn begun(alloc: Global, group: &Store) -> Result<Conversation<Store>, Fail> {
     Ok(Conversation::new(alloc, group, &ServerList::new())?)
 }
 
-/// A conversation of ALICE, who accessed the database.
-fn accessed(alloc: Global, group: &mut Store) -> Result<Conversation<Store>, Fail> {
-    let mut conversation = begun(alloc, group)?;
-    if answered(alloc, group, &mut conversation, &ACCESS)? < ACCESS.len() {
+/// Two conversations in which nothing was said.
+fn both_begun(alloc: Global) -> Result<Scene, Fail> {
+    let group = store(alloc)?;
+    let first = begun(alloc, &group)?;
+    let second = begun(alloc, &group)?;
+    Ok(Scene {
+        group,
+        first,
+        second,
+    })
+}
+
+/// Whether a conversation that takes this chain answers it with these replies.
+fn answers(
+    group: &mut Store,
+    conversation: &mut Conversation<Store>,
+    chain: &[u8],
+    replies: &[u8],
+) -> Result<bool, Fail> {
+    let before = conversation.out().len();
+    conversation.take(group, chain)?;
+    Ok(conversation.out().get(before..) == Some(replies))
+}
+
+/// Whether a command's chain is answered with these replies, by the first conversation or by the second.
+fn is_answered(scene: &mut Scene, who: &str, chain: &[u8], replies: &[u8]) -> Result<bool, Fail> {
+    if who == "1" {
+        answers(&mut scene.group, &mut scene.first, chain, replies)
+    } else {
+        answers(&mut scene.group, &mut scene.second, chain, replies)
+    }
+}
+
+/// The field before the first `|` of a line, and what stands behind it.
+fn field(line: &str) -> (&str, &str) {
+    match line.split_once('|') {
+        Some(fields) => fields,
+        None => (line, ""),
+    }
+}
+
+/// Whether a round is answered as it says.
+fn holds(alloc: Global, scene: &mut Scene, round: &str) -> Result<bool, Fail> {
+    let (who, rest) = field(round);
+    let (command, rest) = field(rest);
+    let (texts, replies) = field(rest);
+    let chain = chain_of(alloc, command, texts)?;
+    let replies = bytes(alloc, replies)?;
+    is_answered(scene, who, chain.as_slice(), replies.as_slice())
+}
+
+/// The number, from 1, of the first of these rounds that isn't answered as it says; 0 where there is none.
+fn refuted_in(alloc: Global, scene: &mut Scene, rounds: &str) -> Result<u32, Fail> {
+    let mut number: u32 = 0;
+    for round in rounds.lines() {
+        number = number.saturating_add(1);
+        if !holds(alloc, scene, round)? {
+            return Ok(number);
+        }
+    }
+    Ok(0)
+}
+
+/// The first of these rounds that isn't answered as it says, in conversations in which nothing was said before.
+fn refuted(alloc: Global, rounds: &str) -> Result<u32, Fail> {
+    let mut scene = both_begun(alloc)?;
+    refuted_in(alloc, &mut scene, rounds)
+}
+
+/// What leads to access in both: the gateway's EXCSAT, ACCSEC with mechanism 3, SECCHK of ALICE with SECRET, and ACCRDB of SAMPLE
+/// with QTDSQL370.
+const ACCESS: &str = "\
+1|HELLO||LEVELS
+1|MECHANISM||CHOSEN
+1|001D106E000611A20003000911A0C1D3C9C3C5000A11A1E2C5C3D9C5E3||0015D0020001000F1219000611490000000511A400
+1|001B2001000D002FD8E3C4E2D8D3F3F7F0000A2110E2C1D4D7D3C5||\
+0033D0020001002D2201000611490000000C112EC7D9D7F0F1F0F1F0000D002FD8E3C4E2D8D3F3F7F0000A00350006119C0025
+2|HELLO||LEVELS
+2|MECHANISM||CHOSEN
+2|001D106E000611A20003000911A0C1D3C9C3C5000A11A1E2C5C3D9C5E3||0015D0020001000F1219000611490000000511A400
+2|001B2001000D002FD8E3C4E2D8D3F3F7F0000A2110E2C1D4D7D3C5||\
+0033D0020001002D2201000611490000000C112EC7D9D7F0F1F0F1F0000D002FD8E3C4E2D8D3F3F7F0000A00350006119C0025";
+
+/// The first of these rounds that isn't answered as it says, in conversations of ALICE, who accessed the database.
+fn refuted_behind_access(alloc: Global, rounds: &str) -> Result<u32, Fail> {
+    let mut scene = both_begun(alloc)?;
+    if refuted_in(alloc, &mut scene, ACCESS)? > 0 {
         return Err(Fail::from("access"));
     }
-    Ok(conversation)
+    refuted_in(alloc, &mut scene, rounds)
 }
-
-/// How many rounds a conversation of ALICE answers as they say.
-fn answered_behind_access(alloc: Global, rounds: &[Round]) -> Result<usize, Fail> {
-    let mut group = store(alloc)?;
-    let mut conversation = accessed(alloc, &mut group)?;
-    answered(alloc, &mut group, &mut conversation, rounds)
-}
-
-// ---- commands and replies
-
-/// RDBCMM that asks for release and for SET statements.
-const COMMIT: &str = "000E200E0005119FF20005210EF1";
-
-/// RDBRLLBCK that asks for nothing.
-const ROLL_BACK: &str = "0004200F";
-
-/// EXCSQLIMM, EXCSQLSET, PRPSQLSTT, OPNQRY, CNTQRY and CLSQRY of section 5.
-const EXECUTE: &str = "000A200A000621130005";
-
-const SET: &str = "000A2014000621130005";
-
-const PREPARE: &str = "000A200D000621130005";
-
-const OPEN: &str = "000A200C000621130005";
-
-const FETCH: &str = "000A2006000621130005";
-
-const CLOSE: &str = "000A2005000621130005";
-
-/// SQLCARDs: success, -803, +100, -104, -514, -502.
-const DONE: &str = "000BD003000100052408FF";
-
-const DUPLICATE: &str = "001ED00300010018240800FFFFFCDDF2F3F5F0F54040404040404040FFFF";
-
-const NOT_FOUND: &str = "001ED0030001001824080000000064F0F2F0F0F04040404040404040FFFF";
-
-const NO_STATEMENT: &str = "001ED00300010018240800FFFFFF98F4F2F6F0F14040404040404040FFFF";
-
-const NOT_PREPARED: &str = "001ED00300010018240800FFFFFDFEF2F6F5F0F14040404040404040FFFF";
-
-const CURSOR_OPEN: &str = "001ED00300010018240800FFFFFE0AF2F4F5F0F24040404040404040FFFF";
-
-/// A commit with release granted.
-const GRANTED: &str = "001AD05200010014220C00061149000400052115010005119FF2000BD003000100052408FF";
-
-/// PRCCNVRM; QRYNOPRM; what opens a cursor.
-const NOT_ALLOWED: &str = "0010D0020001000A1245000611490008";
-
-const NOT_OPEN: &str = "0010D0020001000A2202000611490004";
-
-const OPENED: &str =
-    "0010D0520001000A2205000611490000001CD00300010016241A0976D00200043F00C80971E0540001D00001";
-
-/// The gateway's EXCSAT; ACCSEC with mechanism 3.
-const HELLO: Round = (
-    "001C1041001814041403000724070007240F00071440000714740005",
-    &[],
-    "0022D0030001001C1443001814041403000724070007240F00071440000714740005",
-);
-
-const MECHANISM: Round = (
-    "000A106D000611A20003",
-    &[],
-    "0010D0030001000A14AC000611A20003",
-);
-
-/// What leads to access: SECCHK of ALICE with SECRET, and ACCRDB of SAMPLE with QTDSQL370, behind these two.
-const ACCESS: [Round; 4] = [
-    HELLO,
-    MECHANISM,
-    (
-        "001D106E000611A20003000911A0C1D3C9C3C5000A11A1E2C5C3D9C5E3",
-        &[],
-        "0015D0020001000F1219000611490000000511A400",
-    ),
-    (
-        "001B2001000D002FD8E3C4E2D8D3F3F7F0000A2110E2C1D4D7D3C5",
-        &[],
-        "0033D0020001002D2201000611490000000C112EC7D9D7F0F1F0F1F0000D002FD8E3C4E2D8D3F3F7F0000A00350006119C0025",
-    ),
-];
 
 // ---- access
 
 /// RDBCMM and DSCSQLSTT before EXCSAT; SECCHK with a space behind the password, of a user who isn't known, without a password,
-/// and with a mechanism that has none; ACCRDB with a type definition that isn't known.
-const REFUSALS: [Round; 12] = [
-    (COMMIT, &[], NOT_ALLOWED),
-    (
-        "00042008",
-        &[],
-        "0016D0020001001012500006114900080006000C2008",
-    ),
-    HELLO,
-    MECHANISM,
-    (
-        "001E106E000611A20003000911A0C1D3C9C3C5000B11A1E2C5C3D9C5E340",
-        &[],
-        "0015D0020001000F1219000611490008000511A40F",
-    ),
-    MECHANISM,
-    (
-        "0011106E000611A20003000711A0C2D6C2",
-        &[],
-        "0015D0020001000F1219000611490008000511A413",
-    ),
-    MECHANISM,
-    (
-        "0013106E000611A20003000911A0C1D3C9C3C5",
-        &[],
-        "0015D0020001000F1219000611490008000511A40F",
-    ),
-    MECHANISM,
-    (
-        "0014106E000611A20004000A11A0C1D3C9C3C540",
-        &[],
-        "0015D0020001000F1219000611490000000511A400",
-    ),
-    (
-        "001B2001000D002FD8E3C4E2D8D3F3F7F1000A2110E2C1D4D7D3C5",
-        &[],
-        "0016D0020001001012520006114900080006000C002F",
-    ),
-];
+/// and with a mechanism that has none; ACCRDB with a type definition that isn't known. A length below 6 is answered SYNTAXRM, and
+/// what follows isn't answered.
+const REFUSALS: &str = "\
+1|COMMIT||NOT_ALLOWED
+1|00042008||0016D0020001001012500006114900080006000C2008
+1|HELLO||LEVELS
+1|MECHANISM||CHOSEN
+1|001E106E000611A20003000911A0C1D3C9C3C5000B11A1E2C5C3D9C5E340||0015D0020001000F1219000611490008000511A40F
+1|MECHANISM||CHOSEN
+1|0011106E000611A20003000711A0C2D6C2||0015D0020001000F1219000611490008000511A413
+1|MECHANISM||CHOSEN
+1|0013106E000611A20003000911A0C1D3C9C3C5||0015D0020001000F1219000611490008000511A40F
+1|MECHANISM||CHOSEN
+1|0014106E000611A20004000A11A0C1D3C9C3C540||0015D0020001000F1219000611490000000511A400
+1|001B2001000D002FD8E3C4E2D8D3F3F7F1000A2110E2C1D4D7D3C5||0016D0020001001012520006114900080006000C002F
+2|=0005||0015D0020000000F124C0006114900080005114A01
+2|=0005||";
 
 #[test]
 fn access_is_refused(rt: HostRuntime) -> Result<(), Fail> {
-    let alloc = rt.alloc();
-    let mut group = store(alloc)?;
-    let mut conversation = begun(alloc, &group)?;
-    let count = answered(alloc, &mut group, &mut conversation, &REFUSALS)?;
-    assert_eq!(rt; count, REFUSALS.len());
-    Ok(())
-}
-
-/// A length below 6 is answered SYNTAXRM, and what follows isn't answered.
-#[test]
-fn faults_end_a_conversation(rt: HostRuntime) -> Result<(), Fail> {
-    let alloc = rt.alloc();
-    let mut group = store(alloc)?;
-    let mut conversation = begun(alloc, &group)?;
-    let replies = bytes(alloc, "0015D0020000000F124C0006114900080005114A01")?;
-    assert!(rt;
-        answers(
-            &mut group,
-            &mut conversation,
-            &[0x00, 0x05],
-            replies.as_slice()
-        )?
-    );
-    assert!(rt; answers(&mut group, &mut conversation, &[0x00, 0x05], &[])?);
+    assert_eq!(rt; refuted(rt.alloc(), REFUSALS)?, 0);
     Ok(())
 }
 
 // ---- statements
 
-/// Statements and their SQLCARDs, of which the last two see another schema; EXCSQLIMM without a statement.
-const STATEMENTS: [Round; 17] = [
-    (
-        EXECUTE,
-        &[(SQLSTT, "INSERT INTO T VALUES (1, 'B')")],
-        DUPLICATE,
-    ),
-    (EXECUTE, &[(SQLSTT, "INSERT INTO T VALUES (2, 'B')")], DONE),
-    (
-        EXECUTE,
-        &[(SQLSTT, "INSERT INTO T VALUES (002, 'B')")],
-        DUPLICATE,
-    ),
-    (
-        EXECUTE,
-        &[(SQLSTT, "UPDATE T SET V = 'C' WHERE K = 1")],
-        DONE,
-    ),
-    (
-        EXECUTE,
-        &[(SQLSTT, "UPDATE T SET V = 'C' WHERE K = 3")],
-        NOT_FOUND,
-    ),
-    (EXECUTE, &[(SQLSTT, "DELETE FROM T WHERE K = 1")], DONE),
-    (EXECUTE, &[(SQLSTT, "DELETE FROM T WHERE K = 1")], NOT_FOUND),
-    (EXECUTE, &[(SQLSTT, "INSERT INTO T VALUES (1, 'D')")], DONE),
-    (EXECUTE, &[(SQLSTT, "SELECT K, V FROM T")], NO_STATEMENT),
-    (EXECUTE, &[(SQLSTT, "COMMIT")], NO_STATEMENT),
-    (EXECUTE, &[], NO_STATEMENT),
-    (SET, &[(SQLSTT, "SET R7 = 'x'")], DONE),
-    (SET, &[(SQLSTT, "DELETE FROM T WHERE K = 1")], NO_STATEMENT),
-    (PREPARE, &[(SQLSTT, "SET R7 = 'x'")], NO_STATEMENT),
-    (PREPARE, &[(SQLSTT, "SELECT K, V FROM T")], DONE),
-    (EXECUTE, &[(SQLSTT, "SET CURRENT SCHEMA = 'S'")], DONE),
-    (EXECUTE, &[(SQLSTT, "DELETE FROM T WHERE K = 1")], NOT_FOUND),
-];
+/// Statements and their SQLCARDs; EXCSQLIMM without a statement; at last another schema.
+const STATEMENTS: &str = "\
+1|EXECUTE|INSERT INTO T VALUES (1, 'B')|DUPLICATE
+1|EXECUTE|INSERT INTO T VALUES (2, 'B')|DONE
+1|EXECUTE|INSERT INTO T VALUES (002, 'B')|DUPLICATE
+1|EXECUTE|UPDATE T SET V = 'C' WHERE K = 1|DONE
+1|EXECUTE|UPDATE T SET V = 'C' WHERE K = 3|NOT_FOUND
+1|EXECUTE|DELETE FROM T WHERE K = 1|DONE
+1|EXECUTE|DELETE FROM T WHERE K = 1|NOT_FOUND
+1|EXECUTE|INSERT INTO T VALUES (1, 'D')|DONE
+1|EXECUTE|SELECT K, V FROM T|NO_STATEMENT
+1|EXECUTE|COMMIT|NO_STATEMENT
+1|EXECUTE||NO_STATEMENT
+1|SET|SET R7 = 'x'|DONE
+1|SET|DELETE FROM T WHERE K = 1|NO_STATEMENT
+1|PREPARE|SET R7 = 'x'|NO_STATEMENT
+1|PREPARE|SELECT K, V FROM T|DONE
+1|EXECUTE|SET CURRENT SCHEMA = 'S'|DONE
+1|EXECUTE|DELETE FROM T WHERE K = 1|NOT_FOUND";
 
 #[test]
 fn statements_are_answered(rt: HostRuntime) -> Result<(), Fail> {
-    let count = answered_behind_access(rt.alloc(), &STATEMENTS)?;
-    assert_eq!(rt; count, STATEMENTS.len());
+    assert_eq!(rt; refuted_behind_access(rt.alloc(), STATEMENTS)?, 0);
     Ok(())
 }
 
 // ---- units of work
 
-/// A unit writes the row with key 1, and adds one.
-const FIRST: [Round; 2] = [
-    (
-        EXECUTE,
-        &[(SQLSTT, "UPDATE T SET V = 'B' WHERE K = 1")],
-        DONE,
-    ),
-    (EXECUTE, &[(SQLSTT, "INSERT INTO T VALUES (7, 'B')")], DONE),
-];
+/// A unit writes the row with key 1, and adds one. Another one sees nothing of it, and lets the row with key 1 go; its cursor, which
+/// commits hold, stays open. The unit that commits first is committed, and the other is rolled back, with release granted.
+const CONFLICTS: &str = "\
+1|EXECUTE|UPDATE T SET V = 'B' WHERE K = 1|DONE
+1|EXECUTE|INSERT INTO T VALUES (7, 'B')|DONE
+2|EXECUTE|DELETE FROM T WHERE K = 7|NOT_FOUND
+2|EXECUTE|DELETE FROM T WHERE K = 1|DONE
+2|EXECUTE|INSERT INTO T VALUES (2, 'C')|DONE
+2|PREPARE|WITH HOLD;SELECT K, V FROM T|DONE
+2|OPEN||OPENED
+1|COMMIT||GRANTED
+2|COMMIT||CONFLICT";
 
-/// Another one sees nothing of it, and lets the row with key 1 go; its cursor stays open.
-const SECOND: [Round; 5] = [
-    (EXECUTE, &[(SQLSTT, "DELETE FROM T WHERE K = 7")], NOT_FOUND),
-    (EXECUTE, &[(SQLSTT, "DELETE FROM T WHERE K = 1")], DONE),
-    (EXECUTE, &[(SQLSTT, "INSERT INTO T VALUES (2, 'C')")], DONE),
-    HOLDS,
-    (OPEN, &[], OPENED),
-];
-
-/// UOWDSP 2 with release granted, and SQLCARD -911.
-const CONFLICT: Round = (
-    COMMIT,
-    &[],
-    "001AD05200010014220C00061149000400052115020005119FF2001ED00300010018240800FFFFFC71F4F0F0F0F14040404040404040FFFF",
-);
-
-/// PRPSQLSTT of all rows, for a cursor that commits hold.
-const HOLDS: Round = (
-    PREPARE,
-    &[(SQLATTR, "WITH HOLD"), (SQLSTT, "SELECT K, V FROM T")],
-    DONE,
-);
-
-/// Of two units that wrote the row with key 1 the one that commits first does, and the other is rolled back.
 #[test]
 fn conflicts_roll_back(rt: HostRuntime) -> Result<(), Fail> {
-    let alloc = rt.alloc();
-    let mut group = store(alloc)?;
-    let mut first = accessed(alloc, &mut group)?;
-    let mut second = accessed(alloc, &mut group)?;
-    assert_eq!(rt; answered(alloc, &mut group, &mut first, &FIRST)?, 2);
-    assert_eq!(rt; answered(alloc, &mut group, &mut second, &SECOND)?, 5);
-    assert_eq!(rt;
-        answered(alloc, &mut group, &mut first, &[(COMMIT, &[], GRANTED)])?,
-        1
-    );
-    assert_eq!(rt; answered(alloc, &mut group, &mut second, &[CONFLICT])?, 1);
-    assert_eq!(rt; group.commits(), 1);
+    assert_eq!(rt; refuted_behind_access(rt.alloc(), CONFLICTS)?, 0);
     Ok(())
 }
 
@@ -371,7 +320,7 @@ fn rows_are_told(rt: HostRuntime) -> Result<(), Fail> {
     assert!(rt; !group.add_user(b"ALICE ", b"OTHER")?);
     let rows = group.rows()?;
     let row = rows.get(1).ok_or("a second row")?;
-    assert_eq!(rt; (rows.len(), row.key), (2, 1));
+    assert_eq!(rt; (group.commits(), rows.len(), row.key), (0, 2, 1));
     assert_eq!(rt; row.schema.as_slice(), b"ALICE".as_slice());
     assert_eq!(rt; row.text.as_slice(), b"A".as_slice());
     Ok(())
@@ -380,79 +329,44 @@ fn rows_are_told(rt: HostRuntime) -> Result<(), Fail> {
 // ---- cursors
 
 /// A cursor that is held is fetched on behind a commit, which isn't granted release, to its end; a roll back drops another.
-const FETCHES: [Round; 17] = [
-    (EXECUTE, &[(SQLSTT, "INSERT INTO T VALUES (7, 'b')")], DONE),
-    (OPEN, &[], NOT_PREPARED),
-    HOLDS,
-    (OPEN, &[], OPENED),
-    (OPEN, &[], CURSOR_OPEN),
-    (FETCH, &[], "0014D0030001000E241BFF0000000001000001C1"),
-    (
-        COMMIT,
-        &[],
-        "0015D0520001000F220C0006114900040005211501000BD003000100052408FF",
-    ),
-    (OPEN, &[], NOT_PREPARED),
-    (FETCH, &[], "0014D0030001000E241BFF000000000700000182"),
-    (
-        FETCH,
-        &[],
-        "0010D0520001000A220B000611490004001ED0030001001824080000000064F0F2F0F0F04040404040404040FFFF",
-    ),
-    (FETCH, &[], NOT_OPEN),
-    (CLOSE, &[], NOT_OPEN),
-    HOLDS,
-    (OPEN, &[], OPENED),
-    (
-        ROLL_BACK,
-        &[],
-        "0015D0520001000F220C0006114900040005211502000BD003000100052408FF",
-    ),
-    (FETCH, &[], NOT_OPEN),
-    (COMMIT, &[], GRANTED),
-];
+const FETCHES: &str = "\
+1|EXECUTE|INSERT INTO T VALUES (7, 'b')|DONE
+1|OPEN||NOT_PREPARED
+1|PREPARE|WITH HOLD;SELECT K, V FROM T|DONE
+1|OPEN||OPENED
+1|OPEN||CURSOR_OPEN
+1|FETCH||0014D0030001000E241BFF0000000001000001C1
+1|COMMIT||0015D0520001000F220C0006114900040005211501000BD003000100052408FF
+1|OPEN||NOT_PREPARED
+1|FETCH||0014D0030001000E241BFF000000000700000182
+1|FETCH||0010D0520001000A220B000611490004001ED0030001001824080000000064F0F2F0F0F04040404040404040FFFF
+1|FETCH||NOT_OPEN
+1|CLOSE||NOT_OPEN
+1|PREPARE|WITH HOLD;SELECT K, V FROM T|DONE
+1|OPEN||OPENED
+1|ROLL_BACK||0015D0520001000F220C0006114900040005211502000BD003000100052408FF
+1|FETCH||NOT_OPEN
+1|COMMIT||GRANTED";
 
 #[test]
 fn cursors_are_fetched(rt: HostRuntime) -> Result<(), Fail> {
-    let count = answered_behind_access(rt.alloc(), &FETCHES)?;
-    assert_eq!(rt; count, FETCHES.len());
+    assert_eq!(rt; refuted_behind_access(rt.alloc(), FETCHES)?, 0);
     Ok(())
 }
 
 // ---- registers
 
-/// A commit that tells CURRENT SCHEMA and R10.
-const TOLD: Round = (
-    COMMIT,
-    &[],
-    "001AD05200010014220C00061149000400052115010005119FF2000BD053000100052408FF\
-     002AD053000100242414000000001AE2C5E340C3E4D9D9C5D5E340E2C3C8C5D4C1407E407DE2F1F17DFF\
-     001DD003000100172414000000000DE2C5E340D9F1F0407E407D817DFF",
-);
-
-/// Registers are told in their order, whatever the order in which they were set.
-const REGISTERS: [Round; 3] = [
-    (SET, &[(SQLSTT, "SET R10 = 'a'")], DONE),
-    (SET, &[(SQLSTT, "SET CURRENT SCHEMA = 'S11'")], DONE),
-    TOLD,
-];
-
-/// Another conversation sets them again by one EXCSQLSET.
-const REGISTERS_AGAIN: [Round; 2] = [
-    (
-        SET,
-        &[
-            (SQLSTT, "SET CURRENT SCHEMA = 'S11'"),
-            (SQLSTT, "SET R10 = 'a'"),
-        ],
-        DONE,
-    ),
-    TOLD,
-];
+/// Registers are told in their order, whatever the order in which they were set; another conversation sets them again by one
+/// EXCSQLSET, and is told the same.
+const REGISTERS: &str = "\
+1|SET|SET R10 = 'a'|DONE
+1|SET|SET CURRENT SCHEMA = 'S11'|DONE
+1|COMMIT||TOLD
+2|SET|SET CURRENT SCHEMA = 'S11';SET R10 = 'a'|DONE
+2|COMMIT||TOLD";
 
 #[test]
 fn registers_are_told(rt: HostRuntime) -> Result<(), Fail> {
-    assert_eq!(rt; answered_behind_access(rt.alloc(), &REGISTERS)?, 3);
-    assert_eq!(rt; answered_behind_access(rt.alloc(), &REGISTERS_AGAIN)?, 2);
+    assert_eq!(rt; refuted_behind_access(rt.alloc(), REGISTERS)?, 0);
     Ok(())
 }
