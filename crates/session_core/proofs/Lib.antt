@@ -1,5 +1,0 @@
-pub mod Sizes
-pub mod Commands
-pub mod Params
-pub mod Cores
-pub mod Coming

@@ -1,5 +1,0 @@
-pub mod Size
-pub mod Incoming
-pub mod SeenReading
-pub mod Seen
-pub mod SeenAnswer
