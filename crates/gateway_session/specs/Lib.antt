@@ -1,0 +1,7 @@
+pub mod Session
+pub mod Members
+pub mod Steps
+pub mod Inputs
+pub mod Memory
+pub mod Closing
+pub mod Laws
