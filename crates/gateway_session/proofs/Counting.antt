@@ -1,91 +1,125 @@
 -- The number of the unit in work: a session doesn't count it, and nothing else of a step depends on it.
-use Rattle.std.proofs.Common.{◌≡◌, ℕ, Bool, true, false, ◌||◌, if◌then◌else◌, List, [], ◌∷◌, Option, Some, None, refl, sym, ap, ◌∙◌}
+use Rattle.std.proofs.Common.{◌≡◌, ℕ, Bool, true, false, ◌||◌, if◌then◌else◌, List, [], ◌∷◌, ◌++◌, Option, Some, None, refl, sym, ap, ◌∙◌}
+use Rattle.dss_frame.specs.declared.dss.Dss.{Dss}
+use Rattle.access_handshake.specs.declared.stage.Stage.{Stage}
+use Rattle.access_handshake.specs.declared.stage.Stage.TheVariants.{New, Attached, Chosen, Checked, Accessed}
 use Rattle.unit_segments.specs.declared.command.Command.{Command}
+use Rattle.unit_segments.specs.declared.registers.RegisterFault.{RegisterFault}
 use Rattle.unit_segments.specs.declared.stripped.Stripped.{Stripped}
 use Rattle.unit_segments.specs.Segment.{segments_of}
-use Rattle.plain_model.specs.Core.{Core, Owed, Nothing, Rerouted, Unknown, LimitKind, settle_segments, settle_owed, settled, finish_by}
-use Rattle.plain_model.specs.Core.{with_local, still, moved_too}
+use Rattle.unit_segments.specs.Spelling.{join}
+use Rattle.plain_model.specs.Core.{Core, After, Owed, Nothing, Rerouted, Unknown, LimitKind, first, number_in, settled, finish_by, finished}
 use Rattle.plain_model.specs.Core as core
-use Rattle.plain_model.specs.Local.{is_local, answered_locally}
 use Rattle.plain_model.specs.Begun.{Reading, Chain, Fault, TooLong, begun}
-use Rattle.plain_model.specs.Answered.{answered}
-use Rattle.plain_model.specs.Lost.{accepted, none_left, closed, left, lost, lost_owing, commit_sent, owes}
+use Rattle.plain_model.specs.Answered.{answered, answered_by, answered_core, with_replies, with_end, is_work, joins_again, register_fault}
+use Rattle.plain_model.specs.Lost.{accepted, none_left, none_left_replies, closed, left, lost, lost_owing, commit_sent, owes}
 use Rattle.requester_core.specs.Talk.{Talking}
 use Rattle.session_core.specs.Seen.{unnumbered}
+use Rattle.session_core.proofs.Cores.{finished_said, finished_core}
 use Rattle.gateway_session.specs.declared.loss.LossWhy.{LossWhy}
+use Rattle.gateway_session.specs.declared.loss.ErrorWord.{ErrorWord}
+use Rattle.gateway_session.specs.declared.loss.ErrorWord.TheVariants as word
 use Rattle.gateway_session.specs.declared.held.Held.{Held}
 use Rattle.gateway_session.specs.Session.{Session, uncounted}
 use Rattle.gateway_session.specs.Steps.{going_on, going_by, set_out, set_out_on, set_out_by, after_lost, lost_by_held, lost_transport}
+use Rattle.gateway_session.specs.Steps.{says, with_after, with_word, error_of, begun_with, none_left_word, with_none_left, with_limit}
+use Rattle.gateway_session.specs.Steps.{untried, accept_word, with_accepted, with_list, limit_word, with_answered}
 
--- ---- what isn't counted already
+-- two events say the same, and leave the same but for the number
+record Alike (found after : After) : Type 0 where
+  pub said : found.said ≡ after.said
+  pub core : unnumbered found.core ≡ unnumbered after.core
 
-pub same_core : (k : Core) → k.unit ≡ 0 → unnumbered k ≡ k
-same_core k none = ap (λ (n : ℕ). record k { unit = n }) (sym none)
-
+-- a session whose number isn't counted already
 pub same : (s : Session) → s.core.unit ≡ 0 → uncounted s ≡ s
-same s none = ap (λ (k : Core). record s { core = k }) (same_core s.core none)
+same s none = ap (λ (n : ℕ). record s { core = record s.core { unit = n } }) (sym none)
 
--- ---- events that leave the number
+-- ---- events that don't depend on it
 
-finish_unit : (segments : List (List Command)) (moved : Bool) (k : Core) → (finish_by segments moved k).core.unit ≡ k.unit
-finish_unit [] moved k = refl
-finish_unit (g ∷ segments) moved k = refl
+-- whether the session was led to the base doesn't matter
+still_said : (segments : List (List Command)) (moved : Bool) (k : Core) → (finish_by segments moved k).said ≡ (finish_by segments false k).said
+still_said [] moved k = refl
+still_said (g ∷ segments) moved k = refl
 
-settle_unit : (name : List ℕ) (segments : List (List Command)) (k : Core) → (settle_segments name segments k).core.unit ≡ k.unit
-unfolding settle_segments
-settle_unit name [] k = refl
-settle_unit name (g ∷ segments) k =
-    go (is_local name k.standing g) (answered_locally name g k.standing).stopped
-    (settle_unit name segments (with_local (answered_locally name g k.standing) segments k))
-  where
-    go : (local stopped : Bool) → (settle_segments name segments (with_local (answered_locally name g k.standing) segments k)).core.unit ≡ k.unit
-        → (if local
-        then (if stopped
-        then record { core = with_local (answered_locally name g k.standing) [] k; moved = (answered_locally name g k.standing).moved }
-        else moved_too (answered_locally name g k.standing).moved (settle_segments name segments (with_local (answered_locally name g k.standing)
-        segments k)))
-        else still k).core.unit ≡ k.unit
-    go true true rest = refl
-    go true false rest = rest
-    go false stopped rest = refl
+still_core : (segments : List (List Command)) (moved : Bool) (k : Core) → (finish_by segments moved k).core ≡ (finish_by segments false k).core
+still_core [] moved k = refl
+still_core (g ∷ segments) moved k = refl
 
-owed_unit : (name : List ℕ) (owed : Owed) (k : Core) → (settle_owed name owed k).core.unit ≡ k.unit
-owed_unit name Nothing k = settle_unit name k.segments k
-owed_unit name Rerouted k = refl
-owed_unit name Unknown k = refl
+-- the local segments in front are answered, and then all of the chain may be
+settled_alike : (name : List ℕ) (k : Core) → Alike (finished (settled name (unnumbered k))) (finished (settled name k))
+settled_alike name k =
+    let s = settled name (unnumbered k) in
+    record {
+      said = still_said s.core.segments s.moved s.core ∙ finished_said name k;
+      core = ap unnumbered (still_core s.core.segments s.moved s.core ∙ finished_core name k);
+    }
 
-settled_unit : (name : List ℕ) (k : Core) → (settled name k).core.unit ≡ k.unit
-settled_unit name k = owed_unit name k.owed k
-
-pub begun_unit : (name : List ℕ) (reading : Reading) (k : Core) → (begun name reading k).core.unit ≡ k.unit
+begun_alike : (name : List ℕ) (reading : Reading) (k : Core) → Alike (begun name reading (unnumbered k)) (begun name reading k)
 unfolding begun
-begun_unit name (Chain commands) k =
-    let s = settled name (record k { segments = segments_of commands }) in
-    finish_unit s.core.segments s.moved s.core ∙ settled_unit name (record k { segments = segments_of commands })
-begun_unit name (Fault place error number) k = refl
-begun_unit name (TooLong number) k = refl
+begun_alike name (Chain commands) k = settled_alike name (record k { segments = segments_of commands })
+begun_alike name (Fault place error number) k = record { said = refl; core = refl }
+begun_alike name (TooLong number) k = record { said = refl; core = refl }
 
-pub accepted_unit : (name : List ℕ) (k : Core) → (accepted name k).core.unit ≡ k.unit
+accepted_alike : (name : List ℕ) (k : Core) → Alike (accepted name (unnumbered k)) (accepted name k)
 unfolding accepted
-accepted_unit name k = refl
+accepted_alike name k = record { said = refl; core = refl }
 
-pub none_left_unit : (name : List ℕ) (k : Core) → (none_left name k).core.unit ≡ k.unit
+replies_uncounted : (name : List ℕ) (stage : Stage) (k : Core) → none_left_replies name stage (unnumbered k) ≡ none_left_replies name stage k
+replies_uncounted name New k = refl
+replies_uncounted name Attached k = refl
+replies_uncounted name Chosen k = refl
+replies_uncounted name Checked k = refl
+replies_uncounted name Accessed k = refl
+
+none_left_alike : (name : List ℕ) (k : Core) → Alike (none_left name (unnumbered k)) (none_left name k)
 unfolding none_left
-none_left_unit name k = refl
+none_left_alike name k = record {
+  said = ap (λ (replies : List Dss). join (k.kept ++ replies)) (replies_uncounted name k.standing.stage k);
+  core = refl;
+}
 
-pub closed_unit : (which : LimitKind) (k : Core) → (closed which k).core.unit ≡ k.unit
+closed_alike : (which : LimitKind) (k : Core) → Alike (closed which (unnumbered k)) (closed which k)
 unfolding closed
-closed_unit which k = refl
-
-pub left_unit : (failed : Bool) (k : Core) → (left failed k).unit ≡ k.unit
-unfolding left
-left_unit failed k = refl
-
--- ---- what doesn't depend on it
+closed_alike which k = record { said = refl; core = refl }
 
 pub left_uncounted : (failed : Bool) (k : Core) → left failed (unnumbered k) ≡ unnumbered (left failed k)
 unfolding left
 left_uncounted failed k = refl
+
+-- ---- an answer counts it
+
+answered_core_uncounted : (r : Stripped) (k : Core) → unnumbered (answered_core r (unnumbered k)) ≡ unnumbered (answered_core r k)
+answered_core_uncounted r k = go r.ended (is_work (first k.segments)) (joins_again r.replies k)
+  where
+    go : (ended work joins : Bool)
+        → unnumbered (with_replies r (if ended then with_end r (unnumbered k)
+        else (if work then (if joins then record (unnumbered k) { again = k.again ++ first k.segments } else record (unnumbered k) { spoken = true })
+        else unnumbered k)))
+        ≡ unnumbered (with_replies r (if ended then with_end r k
+        else (if work then (if joins then record k { again = k.again ++ first k.segments } else record k { spoken = true }) else k)))
+    go true work joins = refl
+    go false true true = refl
+    go false true false = refl
+    go false false joins = refl
+
+answered_by_alike : (name : List ℕ) (number : ℕ) (fault : Option RegisterFault) (k : Core)
+    → Alike (answered_by name number fault (unnumbered k)) (answered_by name number fault k)
+answered_by_alike name number None k = settled_alike name k
+answered_by_alike name number (Some why) k = record { said = refl; core = refl }
+
+answered_alike : (name : List ℕ) (r : Stripped) (k : Core) → Alike (answered name r (unnumbered k)) (answered name r k)
+unfolding answered
+answered_alike name r k =
+    let number = number_in (first k.segments) in
+    let fault = register_fault r k in
+    let first_alike = answered_by_alike name number fault (answered_core r (unnumbered k)) in
+    let then_alike = answered_by_alike name number fault (answered_core r k) in
+    record {
+      said = sym first_alike.said ∙ ap (λ (j : Core). (answered_by name number fault j).said) (answered_core_uncounted r k) ∙ then_alike.said;
+      core = sym first_alike.core ∙ ap (λ (j : Core). unnumbered (answered_by name number fault j).core) (answered_core_uncounted r k) ∙ then_alike.core;
+    }
+
+-- ---- what else doesn't depend on it
 
 pub set_out_uncounted : (k : Core) (t : Talking) → set_out (unnumbered k) t ≡ set_out k t
 unfolding set_out
@@ -135,6 +169,67 @@ going_by_uncounted (Some end) s = after_lost_uncounted _ s
 
 pub going_on_uncounted : (s : Session) → uncounted (going_on (uncounted s)) ≡ uncounted (going_on s)
 going_on_uncounted s = going_by_uncounted s.core.end s
+
+-- ---- what is told of an event
+
+word_uncounted : (error : Option ErrorWord) (s : Session) → uncounted (with_word error s) ≡ with_word error (uncounted s)
+word_uncounted None s = refl
+word_uncounted (Some made) s = refl
+
+list_uncounted : (list : Option (List ℕ)) (s : Session) → uncounted (with_list list s) ≡ with_list list (uncounted s)
+list_uncounted None s = refl
+list_uncounted (Some bytes) s = refl
+
+told : (found after : After) (s : Session) → Alike found after
+    → uncounted (with_after found s) ≡ says after.said (uncounted (going_on (record s { core = unnumbered after.core })))
+told found after s alike =
+    ap (says found.said) (sym (going_on_uncounted (record s { core = found.core })))
+    ∙ ap (λ (k : Core). says found.said (uncounted (going_on (record s { core = k })))) alike.core
+    ∙ ap (λ (bytes : List ℕ). says bytes (uncounted (going_on (record s { core = unnumbered after.core })))) alike.said
+
+-- a session whose core is this one without its number
+abbrev pub with_core : Core → Session → Session
+with_core k s = record s { core = unnumbered k }
+
+pub begun_told : (reading : Reading) (k : Core) (s : Session) → uncounted (begun_with reading (with_core k s))
+    ≡ with_word (error_of reading) (says (begun s.name reading k).said (uncounted (going_on (with_core (begun s.name reading k).core s))))
+begun_told reading k s =
+    let before = with_core k s in
+    word_uncounted (error_of reading) (with_after (begun s.name reading (unnumbered k)) before)
+    ∙ ap (with_word (error_of reading))
+    (told (begun s.name reading (unnumbered k)) (begun s.name reading k) before (begun_alike s.name reading k))
+
+pub none_left_told : (k : Core) (s : Session) → uncounted (with_none_left (with_core k s))
+    ≡ with_word (Some (none_left_word k.standing.stage k.owed))
+    (says (none_left s.name k).said (uncounted (going_on (with_core (none_left s.name k).core s))))
+none_left_told k s =
+    ap (with_word (Some (none_left_word k.standing.stage k.owed)))
+    (told (none_left s.name (unnumbered k)) (none_left s.name k) (with_core k s) (none_left_alike s.name k))
+
+pub limit_told : (which : LimitKind) (k : Core) (s : Session) → uncounted (with_limit which (with_core k s))
+    ≡ with_word (Some word.Limit) (says (closed which k).said (uncounted (going_on (with_core (closed which k).core s))))
+limit_told which k s =
+    ap (with_word (Some word.Limit)) (told (closed which (unnumbered k)) (closed which k) (with_core k s) (closed_alike which k))
+
+pub accepted_told : (k : Core) (s : Session) → uncounted (with_accepted (with_core k s))
+    ≡ with_word (Some (accept_word k.owed))
+    (says (accepted s.name k).said (uncounted (going_on (with_core (accepted s.name k).core (untried s)))))
+accepted_told k s =
+    ap (with_word (Some (accept_word k.owed)))
+    (told (accepted s.name (unnumbered k)) (accepted s.name k) (with_core k (untried s)) (accepted_alike s.name k))
+
+pub answered_told : (r : Stripped) (k : Core) (s : Session) → uncounted (with_answered r (with_core k s))
+    ≡ with_word (limit_word (answered s.name r k).core.end) (with_list r.list
+    (says (answered s.name r k).said (uncounted (going_on (with_core (answered s.name r k).core (untried s))))))
+answered_told r k s =
+    let found = answered s.name r (unnumbered k) in
+    let after = answered s.name r k in
+    let alike = answered_alike s.name r k in
+    word_uncounted (limit_word found.core.end) (with_list r.list (with_after found (with_core k (untried s))))
+    ∙ ap (with_word (limit_word found.core.end))
+    (list_uncounted r.list (with_after found (with_core k (untried s))) ∙ ap (with_list r.list) (told found after (with_core k (untried s)) alike))
+    ∙ ap (λ (j : Core). with_word (limit_word j.end) (with_list r.list (says after.said (uncounted (going_on (with_core after.core (untried s)))))))
+    alike.core
 
 -- a list of members isn't looked at
 pub answered_unlisted : (name : List ℕ) (list : Option (List ℕ)) (r : Stripped) (k : Core) → answered name (record r { list = list }) k ≡ answered name r k

@@ -74,7 +74,8 @@ holds s (Some left) before is some = absurd (some (sym (ap held_in is)))
 pub closes_with : (rest : List ℕ) (s after : Session) (last : Last) → IsLast (Runs s) last → KeepsSaying (record s { to_say = rest }) after
     → closed_after last (Runs after) ≡ Closes (closing_with rest s)
 closes_with rest s after last is kept =
-    ap (λ (bytes : List ℕ). Closes (record { rest = bytes; reply = memory_reply last.number; loss = last.loss; gone = after.gone })) kept.to_say
-    ∙ ap (λ (n : ℕ). Closes (record { rest = rest; reply = memory_reply n; loss = last.loss; gone = after.gone })) is.0
-    ∙ ap (λ (loss : Option (ℕ × LossWhy)). Closes (record { rest = rest; reply = (closing_with rest s).reply; loss = loss; gone = after.gone })) is.1
-    ∙ ap (λ (gone : Bool). Closes (record { rest = rest; reply = (closing_with rest s).reply; loss = (closing_with rest s).loss; gone = gone })) kept.gone
+    ap (λ (id : ℕ). Closes (record { id = id; rest = after.to_say; reply = memory_reply last.number; loss = last.loss; gone = after.gone })) kept.id
+    ∙ ap (λ (bytes : List ℕ). Closes (record { id = s.id; rest = bytes; reply = memory_reply last.number; loss = last.loss; gone = after.gone })) kept.to_say
+    ∙ ap (λ (n : ℕ). Closes (record { id = s.id; rest = rest; reply = memory_reply n; loss = last.loss; gone = after.gone })) is.0
+    ∙ ap (λ (loss : Option (ℕ × LossWhy)). Closes (record (closing_with rest s) { loss = loss; gone = after.gone })) is.1
+    ∙ ap (λ (gone : Bool). Closes (record (closing_with rest s) { gone = gone })) kept.gone

@@ -1,6 +1,5 @@
 -- It doesn't matter in what pieces bytes are said, or come.
-use Rattle.std.proofs.Common.{◌≡◌, ◌<◌, ℕ, zero, suc, ◌+◌, List, [], ◌∷◌, ◌++◌, length, drop, Option, Some, refl, sym, ap, ◌∙◌, arith}
-use Rattle.std.proofs.Common.{length-drop, zero-add}
+use Rattle.std.proofs.Common.{◌≡◌, ◌<◌, ℕ, ◌+◌, List, [], ◌∷◌, ◌++◌, length, drop, Option, Some, refl, sym, ap, ◌∙◌, arith, length-drop, drop-drop}
 use Rattle.requester_core.specs.declared.got.Got.{Got}
 use Rattle.requester_core.specs.declared.got.Got.TheVariants.{More}
 use Rattle.requester_core.specs.Talk.{Talking, back}
@@ -11,17 +10,6 @@ use Rattle.gateway_session.specs.Steps.{said_by, after_said, got_on, talked_on, 
 use Rattle.gateway_session.specs.Laws.{SaysInPieces, ReadsInPieces}
 
 -- ---- what is said
-
-drop_none : {A : Type 0} (n : ℕ) → drop {A = A} n [] ≡ []
-drop_none zero = refl
-drop_none (suc n) = refl
-
-drop_more : {A : Type 0} (m n : ℕ) (xs : List A) → drop n (drop m xs) ≡ drop (m + n) xs
-drop_more zero n xs = ap (λ k. drop k xs) (sym (zero-add n))
-drop_more (suc m) n [] = drop_none n ∙ sym (drop_none (suc m + n))
-drop_more (suc m) n (x ∷ xs) =
-    let e : suc m + n ≡ suc (m + n) = omega arith in
-    drop_more m n xs ∙ ap (λ k. drop k (x ∷ xs)) (sym e)
 
 -- what is left to be said is all that it depends on
 said_same : (left front : List ℕ) (s : Session) → said_by left (record s { to_say = front }) ≡ said_by left s
@@ -36,7 +24,7 @@ pub said_in_pieces : SaysInPieces
 unfolding after_said
 said_in_pieces s m n some =
     goes_on_said (drop m s.to_say) s n (omega (arith, length-drop m s.to_say, some))
-    ∙ ap (λ left. said_by left s) (drop_more m n s.to_say)
+    ∙ ap (λ left. said_by left s) (drop-drop n m s.to_say)
 
 -- ---- what a server answers
 

@@ -84,8 +84,11 @@ both_left came p q e =
       chain = (next_of (with_piece q (without_next (with_piece p came)))).chain;
     }) (left_so came p e)
     ∙ ap (λ (n : Next). record { frames = record w { whole = n.whole }; chain = n.chain }) (both_next came p q e)
-    ∙ ap (λ (v : View). record { frames = record v { whole = (next_of (with_piece (p ++ q) came)).whole }; chain = (next_of (with_piece (p ++ q)
-    came)).chain })
+    ∙ ap (λ (v : View). record {
+      frames = record v { whole = (next_of (with_piece (p ++ q) came)).whole };
+      chain = (next_of (with_piece (p ++ q)
+          came)).chain;
+    })
     (sym (second came.frames p q))
 
 pub taken_in_pieces : TakesInPieces

@@ -6,7 +6,7 @@ use Rattle.gateway_session.specs.Memory.{State, Runs, Closes}
 
 abbrev pub state_of : Session → Option Left → State
 state_of s None = Runs s
-state_of s (Some left) = Closes (record { rest = s.to_say; reply = drop left.said left.reply; loss = s.unasked.loss; gone = s.gone })
+state_of s (Some left) = Closes (record { id = s.id; rest = s.to_say; reply = drop left.said left.reply; loss = s.unasked.loss; gone = s.gone })
 
 -- a session that closes holds no transport, and of what wasn't asked for it has a loss alone
 pub record HasLossAlone (s : Session) : Type 0 where

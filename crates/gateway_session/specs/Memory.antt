@@ -17,6 +17,7 @@ use Rattle.gateway_session.specs.Session.{Session, uncounted, no_tries, no_mark,
 
 -- what is left of a session that found no memory
 pub record Closing : Type 0 where
+  pub id : ℕ
   -- the rest of the reply that was finished before, and the rest of RSCLMTRM behind it
   pub rest : List ℕ
   pub reply : List ℕ
@@ -36,6 +37,7 @@ loss_at_end (Some held) loss = Some (held.number, Left)
 -- RSCLMTRM has the number of the first command of the segment that was in work, or 0.
 abbrev pub closing_with : List ℕ → Session → Closing
 closing_with rest s = record {
+  id = s.id;
   rest = rest;
   reply = memory_reply (first_number s.core);
   loss = loss_at_end s.held s.unasked.loss;
@@ -44,6 +46,7 @@ closing_with rest s = record {
 
 -- a step in which memory ran out said nothing, and nothing of it is to be said
 pub record KeepsSaying (before after : Session) : Type 0 where
+  pub id : after.id ≡ before.id
   pub to_say : after.to_say ≡ before.to_say
   pub gone : after.gone ≡ before.gone
 
@@ -84,7 +87,7 @@ IsLast (Closes closing) last = Unit {0}
 
 -- memory ran out in the step that led to this session
 abbrev pub closed_after : Last → State → State
-closed_after last (Runs s) = Closes (record { rest = s.to_say; reply = memory_reply last.number; loss = last.loss; gone = s.gone })
+closed_after last (Runs s) = Closes (record { id = s.id; rest = s.to_say; reply = memory_reply last.number; loss = last.loss; gone = s.gone })
 closed_after last (Closes closing) = Closes closing
 
 abbrev pub IsGoing : State → Type 0
@@ -117,6 +120,10 @@ without_word (Runs s) = Runs (record s { unasked = record s.unasked { word = Non
 without_word (Closes closing) = Closes closing
 
 -- ---- what is seen of either
+
+abbrev pub id_in : State → ℕ
+id_in (Runs s) = s.id
+id_in (Closes closing) = closing.id
 
 abbrev pub need_in : State → Need
 need_in (Runs s) = need s

@@ -24,6 +24,7 @@ abbrev pub no_tries : Tries
 no_tries = record { tried = 0; fresh = false }
 
 pub record Session : Type 0 where
+  pub id : ℕ
   -- the name of the gateway's database
   pub name : List ℕ
   pub core : Core
@@ -36,8 +37,9 @@ pub record Session : Type 0 where
   -- the application ended, or failed
   pub gone : Bool
 
-abbrev pub new_session : List ℕ → Session
-new_session name = record {
+abbrev pub new_session : ℕ → List ℕ → Session
+new_session id name = record {
+  id = id;
   name = name;
   core = new_core;
   incoming = nothing_came;

@@ -7,6 +7,7 @@ mod laws;
 mod loss;
 mod need;
 mod running;
+mod saying;
 mod session;
 
 pub use laws::{pieces_are_answered, pieces_are_said, pieces_are_taken};

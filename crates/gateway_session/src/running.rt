@@ -18,6 +18,7 @@ ghost use Rattle.gateway_session.specs.Members.{IsMember, LendsMember};
 use crate::held::{Held, Tries, Unasked};
 use crate::loss::{ErrorWord, Lent, LossWhy};
 use crate::need::{End, Need};
+use crate::saying::place_behind;
 use access_handshake::{Mark, Stage};
 use link_ends::{NoMemory, Octets};
 use reply_texts::RdbName;
@@ -33,6 +34,7 @@ use unit_segments::{Segment, Stripped};
 #[derive(Drop)]
 pub(crate) struct Running {
     alloc: Global,
+    id: u32,
     rdb: RdbName,
     core: SessionCore,
     incoming: Incoming,
@@ -46,17 +48,19 @@ pub(crate) struct Running {
 }
 
 impl Model for Running {
-    ghost use Rattle.std.specs.Prelude.{◌≡◌, drop};
+    ghost use Rattle.std.specs.Prelude.{drop};
     ghost use Rattle.std.specs.Option.{ForSome};
     ghost use Rattle.reply_texts.specs.RdbName.{characters_of};
+    ghost use Rattle.session_core.specs.Seen.{unnumbered};
     ghost use Rattle.gateway_session.specs.Session.{Session};
     ghost use Rattle.gateway_session.specs.Members.{HasMember};
 
     ghost Value = { Session };
 
     ghost view = { λ r. record {
+      id = r.id;
       name = characters_of r.rdb;
-      core = r.core;
+      core = unnumbered r.core;
       incoming = r.incoming;
       held = r.held;
       tries = r.tries;
@@ -65,16 +69,17 @@ impl Model for Running {
       gone = r.gone;
     } };
 
-    ghost invariant = { λ r. ForSome r.held HasMember × (r.core.unit ≡ 0) };
+    ghost invariant = { λ r. ForSome r.held HasMember };
 }
 
 impl Running {
     /// Nothing came, and nothing was said.
-    pub(crate) fn new(alloc: Global, rdb: &RdbName) -> Running
-        ensures { result ≡ uncounted (new_session (characters_of rdb.now)) }
+    pub(crate) fn new(alloc: Global, id: u32, rdb: &RdbName) -> Running
+        ensures { result ≡ uncounted (new_session id (characters_of rdb.now)) }
     {
         Running {
             alloc,
+            id,
             rdb: *rdb,
             core: SessionCore::new(alloc),
             incoming: Incoming::new(alloc),
@@ -92,6 +97,12 @@ impl Running {
     }
 
     // ---- what it is
+
+    pub(crate) fn id(&self) -> u32
+        ensures { result ≡ self.now.id }
+    {
+        self.id
+    }
 
     /// What it needs next.
     #[tactic(auto, unfolding(crate::specs::Session::need))]
@@ -242,7 +253,7 @@ impl Running {
     // ---- a loss
 
     /// The transport that is held, if one is, is lost.
-    #[tactic(auto, unfolding(crate::specs::Steps::after_lost), using(crate::proofs::Counting::same, crate::proofs::Counting::same_core))]
+    #[tactic(auto, unfolding(crate::specs::Steps::after_lost), using(crate::proofs::Counting::lost_uncounted))]
     pub(crate) fn lose(&mut self, why: LossWhy)
         ensures { self.new ≡ uncounted (after_lost why self.old) }
     {
@@ -259,7 +270,7 @@ impl Running {
     // ---- going on
 
     /// A session that has ended loses the transport that it holds; else the segment in work goes out on it.
-    #[tactic(auto, using(crate::proofs::Counting::same, crate::proofs::Counting::same_core))]
+    #[tactic(auto, using(crate::proofs::Counting::set_out_uncounted))]
     fn go_on(&mut self) -> Result<(), NoMemory>
         ensures session { OnOk result (self.new ≡ uncounted (going_on self.old)) }
         ensures saying { KeepsSaying self.old self.new }
@@ -284,7 +295,6 @@ impl Running {
     }
 
     /// What was finished is to be said, when the session has gone on.
-    #[tactic(auto, using(crate::proofs::Counting::same))]
     fn say(&mut self, said: Octets) -> Result<(), NoMemory>
         requires { self.old.to_say ≡ [] }
         ensures session { OnOk result (self.new ≡ says said (uncounted (going_on self.old))) }
@@ -310,7 +320,7 @@ impl Running {
     }
 
     /// The next chain comes into work, or a fault in its place, where that is whole.
-    #[tactic(auto, unfolding(crate::specs::Steps::begin_next), using(crate::proofs::Counting::same))]
+    #[tactic(auto, unfolding(crate::specs::Steps::begin_next))]
     fn begin_next(&mut self) -> Result<(), NoMemory>
         requires { self.old.to_say ≡ [] }
         ensures session { OnOk result (self.new ≡ uncounted (begin_next self.old)) }
@@ -323,7 +333,7 @@ impl Running {
     }
 
     /// What the application's bytes go on with comes into work.
-    #[tactic(auto, using(crate::proofs::Counting::same, crate::proofs::Counting::begun_unit))]
+    #[tactic(auto, using(crate::proofs::Counting::begun_told))]
     fn begin(&mut self, reading: Reading) -> Result<(), NoMemory>
         requires commands { HasCommands reading }
         requires said { self.old.to_say ≡ [] }
@@ -355,12 +365,13 @@ impl Running {
     }
 
     /// So many bytes were said; when all are, the next chain is looked for.
-    #[tactic(auto, unfolding(crate::specs::Steps::after_said), using(crate::proofs::Counting::same))]
+    #[tactic(auto, unfolding(crate::specs::Steps::after_said))]
     pub(crate) fn said(&mut self, n: usize) -> Result<(), NoMemory>
+        requires { n ≤ length self.old.to_say }
         ensures session { OnOk result (self.new ≡ uncounted (after_said n self.old)) }
         ensures err { OnErr result (KeepsSaying (record self.old { to_say = drop n self.old.to_say }) self.new) }
     {
-        self.said = self.said.saturating_add(n);
+        self.count_said(n);
         if !self.to_say().is_empty() || self.core.segment().is_some() || self.core.end().is_some() {
             return Ok(());
         }
@@ -369,13 +380,15 @@ impl Running {
 
     /// So many bytes were said.
     pub(crate) fn count_said(&mut self, n: usize)
-        ensures { self.new ≡ record self.old { to_say = drop n self.old.to_say } }
+        requires { n ≤ length self.old.to_say }
+        ensures session { self.new ≡ record self.old { to_say = drop n self.old.to_say } }
+        ensures uncounted { self.old.core.unit ≡ 0 }
     {
-        self.said = self.said.saturating_add(n);
+        self.said = place_behind(self.saying.as_slice(), self.said, n);
     }
 
     /// The application ended, or failed.
-    #[tactic(auto, unfolding(crate::specs::Steps::after_app_end), using(crate::proofs::Counting::left_unit, crate::proofs::Counting::left_uncounted))]
+    #[tactic(auto, unfolding(crate::specs::Steps::after_app_end), using(crate::proofs::Counting::left_uncounted))]
     pub(crate) fn app_end(&mut self, failed: bool)
         ensures { self.new ≡ uncounted (after_app_end failed self.old) }
     {
@@ -387,7 +400,7 @@ impl Running {
     // ---- a transport
 
     /// What it asked for of the pool.
-    #[tactic(auto, unfolding(crate::specs::Steps::after_lend), using(crate::proofs::Counting::same))]
+    #[tactic(auto, unfolding(crate::specs::Steps::after_lend), using(crate::proofs::Counting::set_out_uncounted))]
     pub(crate) fn lend(&mut self, lent: Lent) -> Result<(), NoMemory>
         requires member { LendsMember lent }
         requires said { self.old.to_say ≡ [] }
@@ -415,7 +428,6 @@ impl Running {
     }
 
     /// It waits for a transport, and stays as it is.
-    #[tactic(auto, using(crate::proofs::Counting::same))]
     fn wait(&self)
         ensures { self.now ≡ uncounted self.now }
     {
@@ -423,7 +435,6 @@ impl Running {
     }
 
     /// It holds this transport.
-    #[tactic(auto, using(crate::proofs::Counting::same))]
     fn hold(&mut self, number: u64, member: u32, talk: Option<Talk>)
         requires { IsMember member }
         ensures { self.new ≡ uncounted (holding number member talk self.old) }
@@ -437,7 +448,7 @@ impl Running {
     }
 
     /// No listed member is left.
-    #[tactic(auto, using(crate::proofs::Counting::same, crate::proofs::Counting::none_left_unit))]
+    #[tactic(auto, using(crate::proofs::Counting::none_left_told))]
     fn none_left(&mut self) -> Result<(), NoMemory>
         requires { self.old.to_say ≡ [] }
         ensures session { OnOk result (self.new ≡ uncounted (with_none_left self.old)) }
@@ -451,7 +462,7 @@ impl Running {
     }
 
     /// A limit was passed.
-    #[tactic(auto, using(crate::proofs::Counting::same, crate::proofs::Counting::closed_unit))]
+    #[tactic(auto, using(crate::proofs::Counting::limit_told))]
     fn limit(&mut self, kind: LimitKind) -> Result<(), NoMemory>
         requires { self.old.to_say ≡ [] }
         ensures session { OnOk result (self.new ≡ uncounted (with_limit (seen_kind kind) self.old)) }
@@ -464,7 +475,7 @@ impl Running {
     }
 
     /// Its transport was dialled, or couldn't be.
-    #[tactic(auto, unfolding(crate::specs::Steps::after_dialled), using(crate::proofs::Counting::same))]
+    #[tactic(auto, unfolding(crate::specs::Steps::after_dialled), using(crate::proofs::Counting::set_out_uncounted))]
     pub(crate) fn dialled(&mut self, ok: bool) -> Result<(), NoMemory>
         ensures session { OnOk result (self.new ≡ uncounted (after_dialled ok self.old)) }
         ensures err { OnErr result (KeepsSaying self.old self.new) }
@@ -482,7 +493,7 @@ impl Running {
     }
 
     /// Its transport was given back.
-    #[tactic(auto, unfolding(crate::specs::Steps::after_given), using(crate::proofs::Counting::same))]
+    #[tactic(auto, unfolding(crate::specs::Steps::after_given))]
     pub(crate) fn given(&mut self)
         ensures { self.new ≡ uncounted (after_given self.old) }
     {
@@ -492,7 +503,7 @@ impl Running {
     // ---- bytes to the server
 
     /// So many bytes were sent.
-    #[tactic(auto, unfolding(crate::specs::Steps::after_sent), using(crate::proofs::Counting::same))]
+    #[tactic(auto, unfolding(crate::specs::Steps::after_sent))]
     pub(crate) fn sent(&mut self, n: usize) -> Result<(), NoMemory>
         requires { n ≤ length (sending_by_held self.old.held) }
         ensures session { OnOk result (self.new ≡ uncounted (after_sent n self.old)) }
@@ -564,7 +575,7 @@ impl Running {
     }
 
     /// Access was given, and the owed error is told.
-    #[tactic(auto, using(crate::proofs::Counting::same, crate::proofs::Counting::accepted_unit))]
+    #[tactic(auto, using(crate::proofs::Counting::accepted_told))]
     fn accept(&mut self) -> Result<(), NoMemory>
         requires { self.old.to_say ≡ [] }
         ensures session { OnOk result (self.new ≡ uncounted (with_accepted self.old)) }
@@ -602,7 +613,7 @@ impl Running {
     }
 
     /// The segment in work was answered.
-    #[tactic(auto, using(crate::proofs::Counting::same, crate::proofs::Counting::going_on_uncounted, crate::proofs::Counting::answered_unlisted))]
+    #[tactic(auto, using(crate::proofs::Counting::answered_told, crate::proofs::Counting::answered_unlisted))]
     fn answered(&mut self, stripped: Stripped) -> Result<(), NoMemory>
         requires { self.old.to_say ≡ [] }
         ensures session { OnOk result (self.new ≡ uncounted (with_answered stripped self.old)) }

@@ -5,12 +5,13 @@ ghost use Rattle.gateway_session.specs.Session.{new_session, uncounted};
 ghost use Rattle.gateway_session.specs.Members.{LendsMember};
 ghost use Rattle.gateway_session.specs.Steps.{after_app, after_lend, after_dialled, after_sent, after_back, after_given, after_lost};
 ghost use Rattle.gateway_session.specs.Memory.{Runs, IsClosing, IsGoing, IsLast, closed_after, step, out_of_memory, to_say_of, said_in};
-ghost use Rattle.gateway_session.specs.Memory.{rest_after_said, app_end_in, need_in, to_say_in};
+ghost use Rattle.gateway_session.specs.Memory.{rest_after_said, app_end_in, id_in, need_in, to_say_in};
 ghost use Rattle.gateway_session.specs.Memory.{to_send_in, mark_in, held_in, tries_in, loss_in, list_in, word_in, without_loss, without_list, without_word};
 
 use crate::loss::{ErrorWord, Lent, LossWhy};
 use crate::need::{End, Need};
 use crate::running::{NO_MARK, Running};
+use crate::saying::place_behind;
 use access_handshake::Mark;
 use link_ends::{NoMemory, Octets};
 use reply_texts::{RdbName, memory_dss};
@@ -29,7 +30,6 @@ pub struct Closing {
 /// One application's session.
 #[derive(Drop)]
 pub struct Session {
-    id: u32,
     running: Running,
     closing: Option<Closing>,
 }
@@ -48,18 +48,19 @@ impl Model for Session {
 impl Session {
     /// Nothing came, and nothing was said. The session has this number.
     pub fn new(alloc: Global, id: u32, rdb: &RdbName) -> Result<Session, NoMemory>
-        ensures { IfOk result (λ session. session ≡ Runs (uncounted (new_session (characters_of rdb.now)))) }
+        ensures { IfOk result (λ session. session ≡ Runs (uncounted (new_session id (characters_of rdb.now)))) }
     {
         Ok(Session {
-            id,
-            running: Running::new(alloc, rdb),
+            running: Running::new(alloc, id, rdb),
             closing: None,
         })
     }
 
     /// Its number.
-    pub fn id(&self) -> u32 {
-        self.id
+    pub fn id(&self) -> u32
+        ensures { result ≡ id_in self.now }
+    {
+        self.running.id()
     }
 
     // ---- what it is
@@ -243,7 +244,7 @@ impl Session {
     {
         if let Some(closing) = &mut self.closing {
             if self.running.to_say().is_empty() {
-                closing.said = closing.said.saturating_add(n);
+                closing.count_said(n);
             } else {
                 self.running.count_said(n);
             }
@@ -314,5 +315,14 @@ impl Closing {
         ensures { result.now ≡ drop self.now.said self.now.reply }
     {
         self.reply.as_slice().get(self.said..).unwrap_or(&[])
+    }
+
+    /// So many of them were said.
+    fn count_said(&mut self, n: usize)
+        requires { n ≤ length (drop self.old.said self.old.reply) }
+        ensures reply { self.new.reply ≡ self.old.reply }
+        ensures said { drop self.new.said self.old.reply ≡ drop n (drop self.old.said self.old.reply) }
+    {
+        self.said = place_behind(&self.reply, self.said, n);
     }
 }
