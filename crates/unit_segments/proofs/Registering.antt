@@ -1,16 +1,16 @@
 -- A log of registers is kept in a map.
-use Rattle.std.proofs.Common.{◌≡◌, ℕ, suc, ◌+◌, ◌<◌, ◌≤◌, ◌==◌, Bool, true, false, not, cond, ◌&&◌, ◌||◌, if◌then◌else◌, List, [], ◌∷◌, ◌++◌, length}
-use Rattle.std.proofs.Common.{map, is_some, nat_eq, nat_lt, nat_le, Option, Some, None, Result, Ok, Err, refl, sym, ap, ◌∙◌, subst, arith, true≢false}
+use Rattle.std.proofs.Common.{◌≡◌, ℕ, ◌+◌, ◌<◌, ◌≤◌, Bool, true, false, not, cond, ◌&&◌, if◌then◌else◌, List, [], ◌∷◌, ◌++◌, length}
+use Rattle.std.proofs.Common.{map, is_some, nat_eq, nat_lt, nat_le, Ok, Err, refl, sym, ap, ◌∙◌, subst, arith}
 use Rattle.std.specs.Prelude.{bytes_eq}
-use Rattle.std.specs.List.{AllByRecursion, IsDistinct, list_any}
+use Rattle.std.specs.List.{AllByRecursion, IsDistinct}
 use Rattle.std.specs.Map.{lookup, keys_of}
 use Rattle.std.specs.Cmp.Lexicographic.{pointwise, same_text}
+use Rattle.std.proofs.lemmas.Cmp.{nat_list_eq_equiv}
 use Rattle.std.proofs.lemmas.List.{append_assoc, append-nil, length-append, length-map}
 use Rattle.indexmap.specs.IndexMap.{insert_entry}
 use Rattle.ddm_objects.specs.Objects.{canonical_object}
 use Rattle.ddm_codepoints.specs.declared.typdef.TypDef.{TypDef}
 use Rattle.ddm_codepoints.specs.CodePoint.{sqlstt}
-use Rattle.unit_segments.specs.declared.registers.RegisterFault.{RegisterFault}
 use Rattle.unit_segments.specs.declared.registers.RegisterFault.TheVariants.{TooMany, TooLong}
 use Rattle.unit_segments.specs.Registers.{Register, most_registers, most_text, set_of, key_of, has_key, with_register, with_set}
 use Rattle.std.proofs.lemmas.Bool.{leb-false, ltb-false}
@@ -144,6 +144,33 @@ kept_inserted key value shown entries entries_now log kept view same is distinct
       short = subst (λ (es : Entries). AllByRecursion IsShort es) (sym is) (short_inserted key shown entries kept.short size);
       distinct = distinct;
     }
+
+-- ---- a log that is copied
+
+-- a key that stands behind others is none of them
+behind_differs : (first key value : List ℕ) (done left : Entries) →
+    AllByRecursion (λ other. pointwise nat_eq first other ≡ false) (keys_of (done ++ (key, value) ∷ left)) → pointwise nat_eq key first ≡ false
+behind_differs first key value [] left all = nat_list_eq_equiv.symm key first ∙ all.0
+behind_differs first key value (entry ∷ done) left all = behind_differs first key value done left all.1
+
+-- the next of entries with distinct keys comes last behind those before it
+next_is_last : (key value : List ℕ) (done left : Entries) → IsDistinct (pointwise nat_eq) (keys_of (done ++ (key, value) ∷ left)) →
+    insert_entry (pointwise nat_eq) done key value ≡ done ++ (key, value) ∷ []
+next_is_last key value [] left distinct = refl
+next_is_last key value (entry ∷ done) left distinct =
+    let parts = distinct_from entry.0 (keys_of (done ++ (key, value) ∷ left)) distinct in
+    let differs : pointwise nat_eq key entry.0 ≡ false = behind_differs entry.0 key value done left parts.0 in
+    rw differs (ap (λ (es : Entries). entry ∷ es) (next_is_last key value done left parts.1))
+
+-- what is copied so far and what is left stay the whole
+pub copied_on : (done done_now left rest : Entries) (key value key_now value_now : List ℕ) → IsKept (done ++ left) → left ≡ (key, value) ∷ rest →
+    key_now ≡ key → value_now ≡ value → done_now ≡ insert_entry (pointwise nat_eq) done key_now value_now → done_now ++ rest ≡ done ++ left
+copied_on done done_now left rest key value key_now value_now kept first same_key same_value inserted =
+    let kept_first : IsKept (done ++ (key, value) ∷ rest) = subst (λ (es : Entries). IsKept (done ++ es)) first kept in
+    let last : done_now ≡ done ++ (key, value) ∷ [] =
+    inserted ∙ ap (λ (k : List ℕ). insert_entry (pointwise nat_eq) done k value_now) same_key
+    ∙ ap (λ (v : List ℕ). insert_entry (pointwise nat_eq) done key v) same_value ∙ next_is_last key value done rest kept_first.distinct in
+    ap (λ (es : Entries). es ++ rest) last ∙ append_assoc done ((key, value) ∷ []) rest ∙ ap (λ (es : Entries). done ++ es) (sym first)
 
 -- ---- which answer a statement has
 

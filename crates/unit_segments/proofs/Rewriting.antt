@@ -1,11 +1,11 @@
 -- Parameters are written anew without some of them, one after another.
 use Rattle.std.proofs.Common.{◌≡◌, ℕ, zero, suc, ◌+◌, ◌-◌, ◌<◌, ◌≤◌, Bool, true, false, List, [], ◌∷◌, ◌++◌, length, take, if◌then◌else◌, Option}
-use Rattle.std.proofs.Common.{Some, None, Result, Ok, Err, refl, sym, ap, ◌∙◌, subst, arith}
+use Rattle.std.proofs.Common.{Some, None, Result, Ok, Err, refl, sym, ap, ◌∙◌, arith}
 use Rattle.std.proofs.lemmas.List.{append_assoc, append-nil, length-append, length-take}
 use Rattle.ddm_objects.specs.declared.fault.ObjFault.{ObjFault}
-use Rattle.ddm_objects.specs.Objects.{Member, Found, object_at, canonical_object, greatest_extended}
+use Rattle.ddm_objects.specs.Objects.{Member, Found, object_at}
 use Rattle.ddm_objects.specs.Members.{Scan, next_of, next_at, object_of, after_next, past_object}
-use Rattle.ddm_objects.specs.Builder.{Building, nothing_built, building_size, HasRoomFor, after_begin, after_put, after_end}
+use Rattle.ddm_objects.specs.Builder.{Building, after_put}
 use Rattle.ddm_objects.proofs.Reading.Read.{found_size}
 use Rattle.unit_segments.specs.Release.{kept_by, kept_within, kept_members}
 

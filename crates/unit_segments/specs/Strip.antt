@@ -173,6 +173,7 @@ unfoldable pub stripped : List Command → List Dss → Stripped
 stripped segment replies = record {
   replies = replies_of segment replies;
   ended = has_ended segment replies;
+  committed = is_committed segment replies;
   granted = is_granted segment replies;
   sets = sets_of segment replies;
   list = first_list replies;

@@ -39,6 +39,4 @@ pub use stripped::{Stripped, strip};
 pub use write::write_chain;
 
 #[cfg(test)]
-mod reply_tests;
-#[cfg(test)]
 mod tests;

@@ -8,6 +8,7 @@ ghost use Rattle.unit_segments.specs.Kept.{most_statement};
 ghost use Rattle.unit_segments.specs.declared.registers.RegisterFault.TheVariants.{NoMemory as OutOfMemory};
 
 use crate::command::Command;
+use crate::share::share;
 use crate::statement::{Statement, statement_of};
 use crate::write::write_chain;
 use bytes::Bytes;
@@ -82,6 +83,23 @@ impl RegisterLog {
         ensures most { result ≤ most_registers }
     {
         self.statements.len()
+    }
+
+    /// A log with the same registers, which goes on by itself: what is added to either isn't added to the other. Long
+    /// statements are shared.
+    pub fn copy(&self) -> Result<RegisterLog, NoMemory>
+        ensures { IfOk result (λ log. log ≡ self.now) }
+    {
+        let mut statements = IndexMap::new(self.alloc);
+        let mut left = self.statements.as_slice();
+        while let Some(((key, statement), rest)) = left.split_first() {
+            statements.insert(key.clone()?, share(statement)?)?;
+            left = rest;
+        }
+        Ok(RegisterLog {
+            alloc: self.alloc,
+            statements,
+        })
     }
 
     /// Adds the SET statement that the data of a SQLSTT are, in a type definition of the application's. A register that is set

@@ -5,18 +5,15 @@ ghost use Rattle.unit_segments.specs.Release.{asked, asking, asked_bytes, FitsAC
 
 use crate::body::{code_of, data_of};
 use crate::command::{Command, CommandList};
-use crate::reply::RELEASE;
 use crate::rewrite::{Dropped, rewritten};
 use crate::segment::{Segment, ends_unit};
 use crate::share::share_command;
 use crate::write::write_chain;
 use ddm_codepoints::class;
 use ddm_codepoints::code_point::{RLSCONV, RTNSETSTT};
+use ddm_codepoints::value::{RELEASE, RETURN_SETS};
 use link_ends::{NoMemory, Octets, Sequence};
 use std::alloc::Global;
-
-/// RTNSETSTT where SET statements are asked.
-const RETURN_SETS: u8 = 0xF1;
 
 /// The segment as a member gets it: one canonical chain, numbered from 1, in which a command that ends the unit of work asks
 /// for release and for the unit's SET statements (DRDA, volume 3, RLSCONV, RTNSETSTT), behind its own parameters and in the

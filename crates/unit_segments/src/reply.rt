@@ -3,20 +3,13 @@ ghost use Rattle.std.specs.Option.{option_copied};
 ghost use Rattle.unit_segments.specs.Command.{data_of};
 ghost use Rattle.unit_segments.specs.Strip.{is_object_of, has_params, tells_error, list_of, end_says};
 ghost use Rattle.unit_segments.specs.Told.{told};
-ghost use Rattle.ddm_codepoints.specs.CodePoint.{rlsconv};
-ghost use Rattle.ddm_codepoints.specs.Value.{release};
 
 use crate::body::{code_of, data_of};
 use byteorder::{BigEndian, ByteOrder};
-use ddm_codepoints::code_point::{ACCRDBRM, ENDUOWRM, RLSCONV, SRVLST, SVRCOD};
+use ddm_codepoints::code_point::{ACCRDBRM, ENDUOWRM, SRVLST, SVRCOD};
+use ddm_codepoints::value::ERROR;
 use ddm_objects::find;
 use dss_frame::{Dss, Kind};
-
-/// SVRCOD of an error (DDM, volume 3).
-const ERROR: u16 = 8;
-
-/// RLSCONV where release is asked or granted.
-pub(crate) const RELEASE: u8 = 0xF2;
 
 /// Whether the body of a reply is an object with this code point.
 pub fn is_object_of(code: u16, reply: &Dss) -> bool
@@ -54,12 +47,16 @@ pub fn tells_error(reply: &Dss) -> bool
     }
 }
 
-/// Whether a message that says how the unit of work ended grants release.
-pub(crate) fn grants_release(message: &Dss) -> bool
-    ensures { result ≡ end_says rlsconv release (Some message.now) }
+/// Whether the message that says how the unit of work ended, if there is one, has a parameter with this code point and this one
+/// byte.
+pub(crate) fn end_says(code: u16, value: u8, message: Option<&Dss>) -> bool
+    ensures { result ≡ end_says code value (option_copied message.entry) }
 {
-    match parameter(RLSCONV, message) {
-        Some(value) => is_object_of(ENDUOWRM, message) && value == [RELEASE].as_slice(),
+    let Some(message) = message else {
+        return false;
+    };
+    match parameter(code, message) {
+        Some(data) => is_object_of(ENDUOWRM, message) && data == [value].as_slice(),
         None => false,
     }
 }

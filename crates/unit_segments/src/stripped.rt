@@ -7,12 +7,13 @@ ghost use Rattle.unit_segments.specs.Strip.{given_back, given_number, without_li
 ghost use Rattle.ddm_codepoints.specs.CodePoint.{enduowrm};
 
 use crate::body::data_of;
-use crate::reply::{grants_release, has_params, is_object_of, list_of, tells_error};
+use crate::reply::{end_says, has_params, is_object_of, list_of, tells_error};
 use crate::rewrite::{Dropped, rewritten};
 use crate::segment::{Segment, ends_unit};
 use crate::share::share;
 use ddm_codepoints::class;
-use ddm_codepoints::code_point::{ACCRDBRM, ENDUOWRM, SQLCARD, SQLSTT};
+use ddm_codepoints::code_point::{ACCRDBRM, ENDUOWRM, RLSCONV, SQLCARD, SQLSTT, UOWDSP};
+use ddm_codepoints::value::{COMMITTED, RELEASE};
 use dss_frame::{Dss, DssList};
 use link_ends::{NoMemory, Octets, OctetsList, Sequence};
 use std::alloc::Global;
@@ -24,6 +25,8 @@ pub struct Stripped {
     pub replies: DssList,
     /// Whether the unit of work has ended: ENDUOWRM (DDM, volume 3).
     pub ended: bool,
+    /// Whether it was committed: UOWDSP (DDM, volume 3).
+    pub committed: bool,
     /// Whether the conversation was released: RLSCONV (DRDA, volume 3).
     pub granted: bool,
     /// The data of the SET statements that were asked for: SQLSTT (DRDA, volume 3).
@@ -53,10 +56,8 @@ pub fn strip(alloc: Global, replies: &DssList, segment: &Segment) -> Result<Stri
     Ok(Stripped {
         replies: kept,
         ended: message.is_some(),
-        granted: match message {
-            Some(message) => grants_release(message),
-            None => false,
-        },
+        committed: end_says(UOWDSP, COMMITTED, message),
+        granted: end_says(RLSCONV, RELEASE, message),
         sets,
         list,
         stop: stops(segment, replies),

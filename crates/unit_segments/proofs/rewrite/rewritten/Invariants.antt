@@ -1,4 +1,4 @@
-use Rattle.std.proofs.Common.{◌≡◌, length}
+use Rattle.std.proofs.Common.{length}
 use Rattle.unit_segments.specs.Dropped.{drops}
 use Rattle.unit_segments.proofs.Rewriting.{Rewrites}
 use Rattle.unit_segments.proofs.rewrite.rewritten.Given as goal

@@ -1,5 +1,5 @@
 use Rattle.std.proofs.Common.{length}
-use Rattle.unit_segments.proofs.reply_tests.+are_commands.Given as goal
+use Rattle.unit_segments.proofs.tests.+are_commands.Given as goal
 
 abbrev pub decreases-are_commands : goal.decreases-are_commands
 decreases-are_commands l = length l.commands.now
