@@ -13,6 +13,7 @@ pub record HasLossAlone (s : Session) : Type 0 where
   pub held : s.held ≡ None
   pub list : s.unasked.list ≡ None
   pub word : s.unasked.word ≡ None
+  pub outcome : s.unasked.outcome ≡ None
 
 abbrev pub ClosesEmpty : Session → Option Left → Type 0
 ClosesEmpty s None = Unit {0}

@@ -1,5 +1,6 @@
 pub mod Session
 pub mod Members
+pub mod Told
 pub mod Steps
 pub mod Inputs
 pub mod Memory

@@ -10,9 +10,11 @@ use Rattle.gateway_session.specs.declared.need.Need.{Need}
 use Rattle.gateway_session.specs.declared.loss.LossWhy.{LossWhy}
 use Rattle.gateway_session.specs.declared.loss.LossWhy.TheVariants.{Left}
 use Rattle.gateway_session.specs.declared.loss.ErrorWord.{ErrorWord}
+use Rattle.unit_ledger.specs.declared.outcome.Outcome.{Outcome}
 use Rattle.gateway_session.specs.declared.session.Last.{Last}
 use Rattle.gateway_session.specs.declared.held.Held.{Held}
 use Rattle.gateway_session.specs.declared.held.Tries.{Tries}
+use Rattle.gateway_session.specs.Told.{user_of}
 use Rattle.gateway_session.specs.Session.{Session, uncounted, no_tries, no_mark, need_ended, need, mark_by_held, sending_by_held, number_of}
 
 -- what is left of a session that found no memory
@@ -52,7 +54,7 @@ pub record KeepsSaying (before after : Session) : Type 0 where
 
 -- no transport is held, and of what wasn't asked for only this loss is left
 abbrev pub stopped : Option (ℕ × LossWhy) → Session → Session
-stopped loss s = record s { held = None; unasked = record { list = None; loss = loss; word = None } }
+stopped loss s = record s { held = None; unasked = record { list = None; loss = loss; word = None; outcome = None } }
 
 -- ---- steps
 
@@ -119,6 +121,10 @@ abbrev pub without_word : State → State
 without_word (Runs s) = Runs (record s { unasked = record s.unasked { word = None } })
 without_word (Closes closing) = Closes closing
 
+abbrev pub without_outcome : State → State
+without_outcome (Runs s) = Runs (record s { unasked = record s.unasked { outcome = None } })
+without_outcome (Closes closing) = Closes closing
+
 -- ---- what is seen of either
 
 abbrev pub id_in : State → ℕ
@@ -149,6 +155,15 @@ list_in (Closes closing) = None
 abbrev pub word_in : State → Option ErrorWord
 word_in (Runs s) = s.unasked.word
 word_in (Closes closing) = None
+
+abbrev pub outcome_in : State → Option Outcome
+outcome_in (Runs s) = s.unasked.outcome
+outcome_in (Closes closing) = None
+
+-- of a session that has found no memory nobody asks who it is
+abbrev pub user_in : State → List ℕ
+user_in (Runs s) = user_of s.core.standing.access
+user_in (Closes closing) = []
 
 abbrev pub tries_in : State → Tries
 tries_in (Runs s) = s.tries

@@ -45,7 +45,7 @@ new_session id name = record {
   incoming = nothing_came;
   held = None;
   tries = no_tries;
-  unasked = record { list = None; loss = None; word = None };
+  unasked = record { list = None; loss = None; word = None; outcome = None };
   to_say = [];
   gone = false;
 }

@@ -27,6 +27,7 @@ use Rattle.session_core.specs.Incoming.{with_piece, next_of, without_next}
 use Rattle.gateway_session.specs.declared.held.Held.{Held}
 use Rattle.gateway_session.specs.declared.held.Tries.{Tries}
 use Rattle.gateway_session.specs.Session.{Session, no_tries}
+use Rattle.gateway_session.specs.Told.{with_outcome, end_outcome, owed_outcome, none_left_outcome}
 
 -- the session makes this error
 abbrev pub with_word : Option ErrorWord → Session → Session
@@ -187,7 +188,7 @@ unfoldable pub after_lend : Lent → Session → Session
 after_lend (lent.Idle number member) s = holding number member (Some (set_out s.core (quiet s.name Attached))) s
 after_lend (lent.Dial number member) s = holding number member None s
 after_lend lent.Queue s = s
-after_lend lent.NoneLeft s = with_none_left s
+after_lend lent.NoneLeft s = with_outcome (none_left_outcome s.core.standing.stage s.core.owed) (with_none_left s)
 after_lend lent.Worn s = with_limit Numbers s
 
 abbrev pub dialled_by : Option Held → Session → Session
@@ -274,7 +275,7 @@ with_release (Some held) s = record s { held = Some (record held { released = re
 
 -- the segment in work was answered
 abbrev pub with_whole : Stripped → Session → Session
-with_whole r s = if passes_limit r s.core then with_limit Reply s else with_answered r s
+with_whole r s = if passes_limit r s.core then with_limit Reply s else with_outcome (end_outcome r) (with_answered r s)
 
 -- what the piece comes to
 abbrev pub got_by : Got → Session → Session
@@ -282,7 +283,7 @@ got_by got.More s = s
 got_by got.Refused s = after_lost why.Refused s
 got_by (got.Broken at) s = after_lost (why.Frame at) s
 got_by got.TooLong s = with_limit Reply s
-got_by got.Ready s = with_accepted s
+got_by got.Ready s = with_outcome (owed_outcome s.core.owed) (with_accepted s)
 got_by (got.Whole r) s = with_whole r (with_release s.held s)
 
 -- a piece on the conversation that is held

@@ -2,6 +2,7 @@ use crate::loss::{ErrorWord, LossWhy};
 use link_ends::Octets;
 use requester_core::Talk;
 use server_list::Tried;
+use unit_ledger::Outcome;
 
 /// A transport that is lent to the session.
 #[derive(Drop)]
@@ -32,4 +33,6 @@ pub struct Unasked {
     pub loss: Option<(u64, LossWhy)>,
     /// The last error.
     pub word: Option<ErrorWord>,
+    /// What was told last of the end of a unit of work.
+    pub outcome: Option<Outcome>,
 }

@@ -9,6 +9,7 @@ mod need;
 mod running;
 mod saying;
 mod session;
+mod told;
 
 pub use laws::{pieces_are_answered, pieces_are_said, pieces_are_taken};
 pub use loss::{ErrorWord, Lent, LossWhy};

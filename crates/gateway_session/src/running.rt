@@ -4,14 +4,15 @@ ghost use Rattle.std.specs.List.{AllByRecursion};
 ghost use Rattle.unit_segments.specs.Release.{FitsAChain};
 ghost use Rattle.reply_texts.specs.RdbName.{characters_of};
 ghost use Rattle.plain_model.specs.Core.{first_number};
-ghost use Rattle.session_core.specs.Seen.{seen_kind, seen_end, seen_owed};
+ghost use Rattle.session_core.specs.Seen.{seen_kind, seen_end};
 ghost use Rattle.session_core.specs.SeenReading.{seen_reading, HasCommands};
 ghost use Rattle.gateway_session.specs.Session.{new_session, uncounted, need, need_ended, need_going, need_by_talk, is_released, end_of, mark_by_held};
 ghost use Rattle.gateway_session.specs.Session.{sending_by_held, number_of, no_tries};
 ghost use Rattle.gateway_session.specs.Steps.{after_lost, going_on, set_out, to_run, says, begin_next, begun_with, after_app, after_said, after_app_end};
 ghost use Rattle.gateway_session.specs.Steps.{after_lend, holding, with_none_left, with_limit, after_dialled, after_given, after_sent, after_back};
 ghost use Rattle.gateway_session.specs.Steps.{got_on, talked_on, with_accepted, with_release, with_whole, with_answered, untried};
-ghost use Rattle.gateway_session.specs.Steps.{is_tried_at_once, tried_once, none_left_word, accept_word};
+ghost use Rattle.gateway_session.specs.Steps.{is_tried_at_once, tried_once};
+ghost use Rattle.gateway_session.specs.Told.{with_outcome, user_codes, most_name};
 ghost use Rattle.gateway_session.specs.Memory.{KeepsSaying, loss_at_end, stopped};
 ghost use Rattle.gateway_session.specs.Members.{IsMember, LendsMember};
 
@@ -19,16 +20,21 @@ use crate::held::{Held, Tries, Unasked};
 use crate::loss::{ErrorWord, Lent, LossWhy};
 use crate::need::{End, Need};
 use crate::saying::place_behind;
-use access_handshake::{Mark, Stage};
+use crate::told::{
+    accept_word, end_outcome, name_in, none_left_outcome, none_left_word, owed_outcome,
+};
+use access_handshake::{Mark, Stage, find_parameter};
+use ddm_codepoints::code_point::USRID;
 use link_ends::{NoMemory, Octets};
 use reply_texts::RdbName;
-use requester_core::{Got, Owed, Talk};
+use requester_core::{Got, Talk};
 use server_list::Tried;
 use session_core::{CoreEnd, Incoming, LimitKind, Reading, SessionCore};
 use std::alloc::Global;
 use std::marker::Model;
 use std::mem;
-use unit_segments::{Segment, Stripped};
+use unit_ledger::Outcome;
+use unit_segments::{Segment, Stripped, data_of};
 
 /// A session that finds its memory.
 #[derive(Drop)]
@@ -89,6 +95,7 @@ impl Running {
                 list: None,
                 loss: None,
                 word: None,
+                outcome: None,
             },
             saying: Octets::new(alloc),
             said: 0,
@@ -227,6 +234,15 @@ impl Running {
         }
     }
 
+    /// The name of the user that was given for access, as it came, where it has at most 32 bytes and all are characters.
+    pub(crate) fn user_codes(&self) -> &[u8]
+        ensures codes { result.now ≡ user_codes self.now.core.standing.access }
+        ensures size { length result.now ≤ most_name }
+    {
+        let secchk = self.core.standing().access().secchk.as_slice();
+        name_in(find_parameter(data_of(secchk), USRID))
+    }
+
     // ---- what wasn't asked for
 
     pub(crate) fn take_list(&mut self) -> Option<Octets>
@@ -248,6 +264,22 @@ impl Running {
         ensures session { self.new ≡ record self.old { unasked = record self.old.unasked { word = None } } }
     {
         mem::replace(&mut self.unasked.word, None)
+    }
+
+    pub(crate) fn take_outcome(&mut self) -> Option<Outcome>
+        ensures outcome { result ≡ self.old.unasked.outcome }
+        ensures session { self.new ≡ record self.old { unasked = record self.old.unasked { outcome = None } } }
+    {
+        mem::replace(&mut self.unasked.outcome, None)
+    }
+
+    /// Where something was told of the end of a unit of work, that wasn't asked for.
+    fn note_outcome(&mut self, outcome: Option<Outcome>)
+        ensures { self.new ≡ with_outcome outcome self.old }
+    {
+        if outcome.is_some() {
+            self.unasked.outcome = outcome;
+        }
     }
 
     // ---- a loss
@@ -422,7 +454,12 @@ impl Running {
                 self.wait();
                 Ok(())
             }
-            Lent::NoneLeft => self.none_left(),
+            Lent::NoneLeft => {
+                let outcome = none_left_outcome(self.core.standing().stage(), self.core.owed());
+                self.none_left()?;
+                self.note_outcome(outcome);
+                Ok(())
+            }
             Lent::Worn => self.limit(LimitKind::Numbers),
         }
     }
@@ -553,7 +590,12 @@ impl Running {
                 Ok(())
             }
             Got::TooLong => self.limit(LimitKind::Reply),
-            Got::Ready => self.accept(),
+            Got::Ready => {
+                let outcome = owed_outcome(self.core.owed());
+                self.accept()?;
+                self.note_outcome(outcome);
+                Ok(())
+            }
             Got::Whole(stripped) => self.whole(stripped),
         }
     }
@@ -599,7 +641,10 @@ impl Running {
         if self.core.passes_limit(&stripped.replies) {
             return self.limit(LimitKind::Reply);
         }
-        self.answered(stripped)
+        let outcome = end_outcome(&stripped);
+        self.answered(stripped)?;
+        self.note_outcome(outcome);
+        Ok(())
     }
 
     /// The transport is to be given back where the conversation stands at its server's attributes alone.
@@ -643,6 +688,7 @@ impl Running {
             list: None,
             loss,
             word: None,
+            outcome: None,
         };
     }
 
@@ -745,26 +791,5 @@ fn tried_once(at_once: bool, member: u32, tries: Tries) -> Tries
     Tries {
         tried: tries.tried,
         fresh: true,
-    }
-}
-
-/// What is told where no member is left.
-fn none_left_word(stage: Stage, owed: Option<Owed>) -> ErrorWord
-    ensures { result ≡ none_left_word stage (seen_owed owed) }
-{
-    match (stage, owed) {
-        (Stage::Accessed, Some(Owed::Unknown)) => ErrorWord::EndedUnknown,
-        (Stage::Accessed, _) => ErrorWord::Ended,
-        _ => ErrorWord::NoAccess,
-    }
-}
-
-/// What is told where the session goes on with another server.
-fn accept_word(owed: Option<Owed>) -> ErrorWord
-    ensures { result ≡ accept_word (seen_owed owed) }
-{
-    match owed {
-        Some(Owed::Unknown) => ErrorWord::ReroutedUnknown,
-        Some(Owed::Rerouted) | None => ErrorWord::Rerouted,
     }
 }

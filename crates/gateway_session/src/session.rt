@@ -1,4 +1,4 @@
-ghost use Rattle.std.specs.Prelude.{◌≡◌, ◌≤◌, ◌≢◌, None, drop, length, IsOk, IfOk, OnOk, OnErr};
+ghost use Rattle.std.specs.Prelude.{◌≡◌, ◌≤◌, ◌≢◌, ◌++◌, None, drop, length, map, IsOk, IfOk, OnOk, OnErr};
 ghost use Rattle.reply_texts.specs.RdbName.{characters_of};
 ghost use Rattle.gateway_session.specs.declared.need.Need.TheVariants.{App, Lend, Dial, Send, Back, Give, Say};
 ghost use Rattle.gateway_session.specs.Session.{new_session, uncounted};
@@ -7,17 +7,23 @@ ghost use Rattle.gateway_session.specs.Steps.{after_app, after_lend, after_diall
 ghost use Rattle.gateway_session.specs.Memory.{Runs, IsClosing, IsGoing, IsLast, closed_after, step, out_of_memory, to_say_of, said_in};
 ghost use Rattle.gateway_session.specs.Memory.{rest_after_said, app_end_in, id_in, need_in, to_say_in};
 ghost use Rattle.gateway_session.specs.Memory.{to_send_in, mark_in, held_in, tries_in, loss_in, list_in, word_in, without_loss, without_list, without_word};
+ghost use Rattle.gateway_session.specs.Memory.{outcome_in, without_outcome, user_in};
+ghost use Rattle.gateway_session.specs.Told.{most_name};
+ghost use Rattle.reply_texts.specs.Text.{ascii_in};
+ghost use Rattle.ddm_codepoints.specs.declared.typdef.TypDef.TheVariants.{Sql370};
 
 use crate::loss::{ErrorWord, Lent, LossWhy};
 use crate::need::{End, Need};
 use crate::running::{NO_MARK, Running};
 use crate::saying::place_behind;
 use access_handshake::Mark;
+use ddm_codepoints::TypDef;
 use link_ends::{NoMemory, Octets};
-use reply_texts::{RdbName, memory_dss};
+use reply_texts::{RdbName, decode, memory_dss};
 use server_list::Tried;
 use std::alloc::Global;
 use std::marker::Model;
+use unit_ledger::Outcome;
 
 /// What is left of a session that found no memory.
 #[derive(Drop)]
@@ -139,6 +145,18 @@ impl Session {
         }
     }
 
+    /// The name of the user that was given for access (DDM, volume 3, USRID), in ASCII, in the first bytes; how many these are. There is
+    /// none before access, nor where it has more than 32 bytes or one that is no character in EBCDIC, nor once memory ran out.
+    pub fn user(&self, out: &mut [u8; 32]) -> usize
+        ensures count { result ≡ length (user_in self.now) }
+        ensures name { out.new ≡ user_in self.now ++ drop (length (user_in self.now)) out.old }
+    {
+        match &self.closing {
+            None => put_name(self.running.user_codes(), out),
+            Some(_) => 0,
+        }
+    }
+
     // ---- what wasn't asked for
 
     /// The last list of members that a server told, if that wasn't asked for: the data of SRVLST (DRDA, volume 3).
@@ -163,6 +181,15 @@ impl Session {
         ensures session { self.new ≡ without_word self.old }
     {
         self.running.take_word()
+    }
+
+    /// What was told last of the end of a unit of work, if that wasn't asked for: by the replies to the command that ended it, by an
+    /// owed error, or where no member is left. A step tells of one unit at most.
+    pub fn outcome(&mut self) -> Option<Outcome>
+        ensures outcome { result ≡ outcome_in self.old }
+        ensures session { self.new ≡ without_outcome self.old }
+    {
+        self.running.take_outcome()
     }
 
     // ---- steps
@@ -325,4 +352,16 @@ impl Closing {
     {
         self.said = place_behind(&self.reply, self.said, n);
     }
+}
+
+/// Puts a name in EBCDIC into the first bytes, in ASCII: how many they are.
+fn put_name(codes: &[u8], out: &mut [u8; 32]) -> usize
+    requires { length codes.now ≤ most_name }
+    ensures count { result ≡ length codes.now }
+    ensures name { out.new ≡ map (ascii_in Sql370) codes.now ++ drop (length codes.now) out.old }
+{
+    let front = &mut out[..codes.len()];
+    front.copy_from_slice(codes);
+    decode(front, TypDef::Sql370);
+    codes.len()
 }
