@@ -19,10 +19,12 @@ use Rattle.session_core.proofs.Cores.{finished_said, finished_core}
 use Rattle.gateway_session.specs.declared.loss.LossWhy.{LossWhy}
 use Rattle.gateway_session.specs.declared.loss.ErrorWord.{ErrorWord}
 use Rattle.gateway_session.specs.declared.loss.ErrorWord.TheVariants as word
+use Rattle.unit_ledger.specs.declared.outcome.Outcome.{Outcome}
 use Rattle.gateway_session.specs.declared.held.Held.{Held}
 use Rattle.gateway_session.specs.Session.{Session, uncounted}
 use Rattle.gateway_session.specs.Steps.{going_on, going_by, set_out, set_out_on, set_out_by, after_lost, lost_by_held, lost_transport}
 use Rattle.gateway_session.specs.Steps.{says, with_after, with_word, error_of, begun_with, none_left_word, with_none_left, with_limit}
+use Rattle.gateway_session.specs.Told.{with_outcome}
 use Rattle.gateway_session.specs.Steps.{untried, accept_word, with_accepted, with_list, limit_word, with_answered}
 
 -- two events say the same, and leave the same but for the number
@@ -130,7 +132,7 @@ set_out_by_uncounted true talk k = refl
 set_out_by_uncounted false None k = refl
 set_out_by_uncounted false (Some t) k = ap (λ (x : Talking). Some x) (set_out_uncounted k t)
 
-set_out_on_uncounted : (segments : List (List Command)) (held : Option Held) (k : Core) → set_out_on segments held (unnumbered k) ≡ set_out_on segments held k
+pub set_out_on_uncounted : (segments : List (List Command)) (held : Option Held) (k : Core) → set_out_on segments held (unnumbered k) ≡ set_out_on segments held k
 set_out_on_uncounted [] held k = refl
 set_out_on_uncounted (g ∷ segments) None k = refl
 set_out_on_uncounted (g ∷ segments) (Some held) k =
@@ -180,6 +182,10 @@ list_uncounted : (list : Option (List ℕ)) (s : Session) → uncounted (with_li
 list_uncounted None s = refl
 list_uncounted (Some bytes) s = refl
 
+pub outcome_uncounted : (outcome : Option Outcome) (s : Session) → uncounted (with_outcome outcome s) ≡ with_outcome outcome (uncounted s)
+outcome_uncounted None s = refl
+outcome_uncounted (Some made) s = refl
+
 told : (found after : After) (s : Session) → Alike found after
     → uncounted (with_after found s) ≡ says after.said (uncounted (going_on (record s { core = unnumbered after.core })))
 told found after s alike =
@@ -188,10 +194,10 @@ told found after s alike =
     ∙ ap (λ (bytes : List ℕ). says bytes (uncounted (going_on (record s { core = unnumbered after.core })))) alike.said
 
 -- a session whose core is this one without its number
-abbrev pub with_core : Core → Session → Session
+abbrev with_core : Core → Session → Session
 with_core k s = record s { core = unnumbered k }
 
-pub begun_told : (reading : Reading) (k : Core) (s : Session) → uncounted (begun_with reading (with_core k s))
+begun_told : (reading : Reading) (k : Core) (s : Session) → uncounted (begun_with reading (with_core k s))
     ≡ with_word (error_of reading) (says (begun s.name reading k).said (uncounted (going_on (with_core (begun s.name reading k).core s))))
 begun_told reading k s =
     let before = with_core k s in
@@ -199,39 +205,88 @@ begun_told reading k s =
     ∙ ap (with_word (error_of reading))
     (told (begun s.name reading (unnumbered k)) (begun s.name reading k) before (begun_alike s.name reading k))
 
-pub none_left_told : (k : Core) (s : Session) → uncounted (with_none_left (with_core k s))
+none_left_told : (k : Core) (s : Session) → uncounted (with_none_left (with_core k s))
     ≡ with_word (Some (none_left_word k.standing.stage k.owed))
     (says (none_left s.name k).said (uncounted (going_on (with_core (none_left s.name k).core s))))
 none_left_told k s =
     ap (with_word (Some (none_left_word k.standing.stage k.owed)))
     (told (none_left s.name (unnumbered k)) (none_left s.name k) (with_core k s) (none_left_alike s.name k))
 
-pub limit_told : (which : LimitKind) (k : Core) (s : Session) → uncounted (with_limit which (with_core k s))
+limit_told : (which : LimitKind) (k : Core) (s : Session) → uncounted (with_limit which (with_core k s))
     ≡ with_word (Some word.Limit) (says (closed which k).said (uncounted (going_on (with_core (closed which k).core s))))
 limit_told which k s =
     ap (with_word (Some word.Limit)) (told (closed which (unnumbered k)) (closed which k) (with_core k s) (closed_alike which k))
 
-pub accepted_told : (k : Core) (s : Session) → uncounted (with_accepted (with_core k s))
-    ≡ with_word (Some (accept_word k.owed))
-    (says (accepted s.name k).said (uncounted (going_on (with_core (accepted s.name k).core (untried s)))))
-accepted_told k s =
-    ap (with_word (Some (accept_word k.owed)))
-    (told (accepted s.name (unnumbered k)) (accepted s.name k) (with_core k (untried s)) (accepted_alike s.name k))
+-- ---- a step that tells an event, by what its core and its bytes are
 
-pub answered_told : (r : Stripped) (k : Core) (s : Session) → uncounted (with_answered r (with_core k s))
-    ≡ with_word (limit_word (answered s.name r k).core.end) (with_list r.list
-    (says (answered s.name r k).said (uncounted (going_on (with_core (answered s.name r k).core (untried s))))))
-answered_told r k s =
-    let found = answered s.name r (unnumbered k) in
-    let after = answered s.name r k in
-    let alike = answered_alike s.name r k in
-    word_uncounted (limit_word found.core.end) (with_list r.list (with_after found (with_core k (untried s))))
-    ∙ ap (with_word (limit_word found.core.end))
-    (list_uncounted r.list (with_after found (with_core k (untried s))) ∙ ap (with_list r.list) (told found after (with_core k (untried s)) alike))
-    ∙ ap (λ (j : Core). with_word (limit_word j.end) (with_list r.list (says after.said (uncounted (going_on (with_core after.core (untried s)))))))
-    alike.core
+pub begun_ends : (reading : Reading) (k after : Core) (said : List ℕ) (s before : Session) → s ≡ before → s.core ≡ unnumbered k
+    → said ≡ (begun s.name reading k).said → after ≡ (begun s.name reading k).core
+    → with_word (error_of reading) (says said (uncounted (going_on (with_core after s)))) ≡ uncounted (begun_with reading before)
+begun_ends reading k after said s before is core_is said_is after_is =
+    sym (
+      ap (λ (b : Session). uncounted (begun_with reading b)) (sym is ∙ ap (λ (c : Core). record s { core = c }) core_is)
+      ∙ begun_told reading k s
+      ∙ ap (λ (bytes : List ℕ). with_word (error_of reading) (says bytes (uncounted (going_on (with_core (begun s.name reading k).core s))))) (sym said_is)
+      ∙ ap (λ (j : Core). with_word (error_of reading) (says said (uncounted (going_on (with_core j s))))) (sym after_is)
+    )
+
+pub none_left_ends : (k after : Core) (said : List ℕ) (s before : Session) → s ≡ before → s.core ≡ unnumbered k
+    → said ≡ (none_left s.name k).said → after ≡ (none_left s.name k).core
+    → with_word (Some (none_left_word k.standing.stage k.owed)) (says said (uncounted (going_on (with_core after s)))) ≡ uncounted (with_none_left before)
+none_left_ends k after said s before is core_is said_is after_is =
+    sym (
+      ap (λ (b : Session). uncounted (with_none_left b)) (sym is ∙ ap (λ (c : Core). record s { core = c }) core_is)
+      ∙ none_left_told k s
+      ∙ ap (λ (bytes : List ℕ). with_word (Some (none_left_word k.standing.stage k.owed)) (says bytes (uncounted (going_on (with_core (none_left s.name k).core s))))) (sym said_is)
+      ∙ ap (λ (j : Core). with_word (Some (none_left_word k.standing.stage k.owed)) (says said (uncounted (going_on (with_core j s))))) (sym after_is)
+    )
+
+pub limit_ends : (which : LimitKind) (k after : Core) (said : List ℕ) (s before : Session) → s ≡ before → s.core ≡ unnumbered k
+    → said ≡ (closed which k).said → after ≡ (closed which k).core
+    → with_word (Some word.Limit) (says said (uncounted (going_on (with_core after s)))) ≡ uncounted (with_limit which before)
+limit_ends which k after said s before is core_is said_is after_is =
+    sym (
+      ap (λ (b : Session). uncounted (with_limit which b)) (sym is ∙ ap (λ (c : Core). record s { core = c }) core_is)
+      ∙ limit_told which k s
+      ∙ ap (λ (bytes : List ℕ). with_word (Some word.Limit) (says bytes (uncounted (going_on (with_core (closed which k).core s))))) (sym said_is)
+      ∙ ap (λ (j : Core). with_word (Some word.Limit) (says said (uncounted (going_on (with_core j s))))) (sym after_is)
+    )
+
+pub accepted_ends : (k after : Core) (said : List ℕ) (made : ErrorWord) (s before : Session) → s ≡ untried before → s.core ≡ unnumbered k
+    → made ≡ accept_word before.core.owed → said ≡ (accepted s.name k).said → after ≡ (accepted s.name k).core
+    → with_word (Some made) (says said (uncounted (going_on (with_core after s)))) ≡ uncounted (with_accepted before)
+accepted_ends k after said made s before is core_is made_is said_is after_is =
+    sym (
+      ap (λ (w : ErrorWord). uncounted (with_word (Some w) (with_after (accepted before.name before.core) (untried before)))) (sym made_is)
+      ∙ ap (λ (u : Session). uncounted (with_word (Some made) (with_after (accepted u.name u.core) u)))
+      (sym is ∙ ap (λ (c : Core). record s { core = c }) core_is)
+      ∙ ap (with_word (Some made)) (told (accepted s.name (unnumbered k)) (accepted s.name k) (with_core k s) (accepted_alike s.name k))
+      ∙ ap (λ (bytes : List ℕ). with_word (Some made) (says bytes (uncounted (going_on (with_core (accepted s.name k).core s))))) (sym said_is)
+      ∙ ap (λ (j : Core). with_word (Some made) (says said (uncounted (going_on (with_core j s))))) (sym after_is)
+    )
 
 -- a list of members isn't looked at
-pub answered_unlisted : (name : List ℕ) (list : Option (List ℕ)) (r : Stripped) (k : Core) → answered name (record r { list = list }) k ≡ answered name r k
+answered_unlisted : (name : List ℕ) (list : Option (List ℕ)) (r : Stripped) (k : Core) → answered name (record r { list = list }) k ≡ answered name r k
 unfolding answered
 answered_unlisted name list r k = refl
+
+pub answered_ends : (r : Stripped) (k after : Core) (said : List ℕ) (s before : Session) → s ≡ untried before → s.core ≡ unnumbered k
+    → said ≡ (answered s.name (record r { list = None }) k).said → after ≡ unnumbered (answered s.name (record r { list = None }) k).core
+    → with_word (limit_word after.end) (with_list r.list (says said (uncounted (going_on (with_core after s))))) ≡ uncounted (with_answered r before)
+answered_ends r k after said s before is core_is said_is after_is =
+    let found = answered s.name r (unnumbered k) in
+    let then : After = answered s.name r k in
+    let alike = answered_alike s.name r k in
+    let unlisted : answered s.name (record r { list = None }) k ≡ then = answered_unlisted s.name None r k in
+    sym (
+      ap (λ (u : Session). uncounted (with_word (limit_word (answered u.name r u.core).core.end) (with_list r.list (with_after (answered u.name r u.core) u))))
+      (sym is ∙ ap (λ (c : Core). record s { core = c }) core_is)
+      ∙ word_uncounted (limit_word found.core.end) (with_list r.list (with_after found (with_core k s)))
+      ∙ ap (with_word (limit_word found.core.end))
+      (list_uncounted r.list (with_after found (with_core k s)) ∙ ap (with_list r.list) (told found then (with_core k s) alike))
+      ∙ ap (λ (j : Core). with_word (limit_word j.end) (with_list r.list (says then.said (uncounted (going_on (with_core then.core s)))))) alike.core
+      ∙ ap (λ (bytes : List ℕ). with_word (limit_word then.core.end) (with_list r.list (says bytes (uncounted (going_on (with_core then.core s))))))
+      (sym (said_is ∙ ap (λ (x : After). x.said) unlisted))
+      ∙ ap (λ (j : Core). with_word (limit_word j.end) (with_list r.list (says said (uncounted (going_on (with_core j s))))))
+      (sym (after_is ∙ ap (λ (x : After). unnumbered x.core) unlisted))
+    )

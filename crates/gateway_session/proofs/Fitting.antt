@@ -1,11 +1,13 @@
--- The commands of the segment in work fit a chain.
-use Rattle.std.proofs.Common.{List, [], ◌∷◌, slice_get}
+-- The segment in work: its commands fit a chain, and it goes out on the transport that is held.
+use Rattle.std.proofs.Common.{◌≡◌, List, [], ◌∷◌, Option, Some, None, slice_get, refl}
 use Rattle.std.specs.List.{AllByRecursion}
 use Rattle.std.specs.Option.{ForSome}
 use Rattle.unit_segments.specs.declared.command.Command.{Command}
 use Rattle.unit_segments.specs.Release.{FitsAChain}
 use Rattle.plain_model.specs.Group.{IsCommand}
-use Rattle.plain_model.specs.Core.{first}
+use Rattle.plain_model.specs.Core.{Core, first}
+use Rattle.gateway_session.specs.declared.held.Held.{Held}
+use Rattle.gateway_session.specs.Steps.{set_out_by, set_out_on}
 
 all_fit : (commands : List Command) → AllByRecursion IsCommand commands → AllByRecursion FitsAChain commands
 all_fit [] all = tt
@@ -15,3 +17,16 @@ pub first_fits : (segments : List (List Command)) → AllByRecursion IsCommand (
     → ForSome (slice_get segments 0) (λ commands. AllByRecursion FitsAChain commands)
 first_fits [] all = tt
 first_fits (g ∷ segments) all = all_fit g all
+
+pub stays : (segments : List (List Command)) (held : Option Held) (k : Core) → slice_get segments 0 ≡ None → set_out_on segments held k ≡ held
+stays [] held k none = refl
+stays (g ∷ segments) held k none = absurd cc
+
+pub goes_out : (segments : List (List Command)) (g : List Command) (held : Held) (k : Core) → slice_get segments 0 ≡ Some g
+    → set_out_on segments (Some held) k ≡ Some (record held { talk = set_out_by held.released held.talk k })
+goes_out [] g held k some = absurd cc
+goes_out (h ∷ segments) g held k some = refl
+
+pub goes_nowhere : (segments : List (List Command)) (k : Core) → set_out_on segments None k ≡ None
+goes_nowhere [] k = refl
+goes_nowhere (g ∷ segments) k = refl

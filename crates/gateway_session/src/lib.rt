@@ -10,6 +10,7 @@ mod running;
 mod saying;
 mod session;
 mod told;
+mod tries;
 
 pub use laws::{pieces_are_answered, pieces_are_said, pieces_are_taken};
 pub use loss::{ErrorWord, Lent, LossWhy};

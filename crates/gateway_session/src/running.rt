@@ -7,11 +7,11 @@ ghost use Rattle.plain_model.specs.Core.{first_number};
 ghost use Rattle.session_core.specs.Seen.{seen_kind, seen_end};
 ghost use Rattle.session_core.specs.SeenReading.{seen_reading, HasCommands};
 ghost use Rattle.gateway_session.specs.Session.{new_session, uncounted, need, need_ended, need_going, need_by_talk, is_released, end_of, mark_by_held};
-ghost use Rattle.gateway_session.specs.Session.{sending_by_held, number_of, no_tries};
-ghost use Rattle.gateway_session.specs.Steps.{after_lost, going_on, set_out, to_run, says, begin_next, begun_with, after_app, after_said, after_app_end};
+ghost use Rattle.gateway_session.specs.Session.{sending_by_held, number_of};
+ghost use Rattle.gateway_session.specs.Steps.{after_lost, going_on, set_out_on, set_out_by, set_out, to_run, says, begin_next, begun_with, after_app, after_said, after_app_end};
 ghost use Rattle.gateway_session.specs.Steps.{after_lend, holding, with_none_left, with_limit, after_dialled, after_given, after_sent, after_back};
 ghost use Rattle.gateway_session.specs.Steps.{got_on, talked_on, with_accepted, with_release, with_whole, with_answered, untried};
-ghost use Rattle.gateway_session.specs.Steps.{is_tried_at_once, tried_once};
+ghost use Rattle.gateway_session.specs.Steps.{with_word, with_list};
 ghost use Rattle.gateway_session.specs.Told.{with_outcome, user_codes, most_name};
 ghost use Rattle.gateway_session.specs.Memory.{KeepsSaying, loss_at_end, stopped};
 ghost use Rattle.gateway_session.specs.Members.{IsMember, LendsMember};
@@ -21,8 +21,9 @@ use crate::loss::{ErrorWord, Lent, LossWhy};
 use crate::need::{End, Need};
 use crate::saying::place_behind;
 use crate::told::{
-    accept_word, end_outcome, name_in, none_left_outcome, none_left_word, owed_outcome,
+    accept_word, end_outcome, limit_word, name_in, none_left_outcome, none_left_word, owed_outcome,
 };
+use crate::tries::{is_tried_at_once, no_tries, tried_once};
 use access_handshake::{Mark, Stage, find_parameter};
 use ddm_codepoints::code_point::USRID;
 use link_ends::{NoMemory, Octets};
@@ -302,7 +303,7 @@ impl Running {
     // ---- going on
 
     /// A session that has ended loses the transport that it holds; else the segment in work goes out on it.
-    #[tactic(auto, using(crate::proofs::Counting::set_out_uncounted))]
+    #[tactic(auto, using(crate::proofs::Keeping::lost_keeps))]
     fn go_on(&mut self) -> Result<(), NoMemory>
         ensures session { OnOk result (self.new ≡ uncounted (going_on self.old)) }
         ensures saying { KeepsSaying self.old self.new }
@@ -311,17 +312,21 @@ impl Running {
             self.lose(LossWhy::Left);
             return Ok(());
         }
+        self.go_out()
+    }
+
+    /// The segment in work goes out on the transport that is held.
+    #[tactic(auto, using(crate::proofs::Counting::set_out_on_uncounted, crate::proofs::Fitting::stays, crate::proofs::Fitting::goes_out, crate::proofs::Fitting::goes_nowhere))]
+    fn go_out(&mut self) -> Result<(), NoMemory>
+        ensures session { OnOk result (self.new ≡ record self.old { held = set_out_on self.old.core.segments self.old.held self.old.core }) }
+        ensures saying { KeepsSaying self.old self.new }
+        ensures uncounted { self.old.core.unit ≡ 0 }
+    {
         if self.core.segment().is_none() {
             return Ok(());
         }
-        let Some(held) = &mut self.held else {
-            return Ok(());
-        };
-        if held.released {
-            return Ok(());
-        }
-        match &mut held.talk {
-            Some(talk) => set_out(&self.core, talk),
+        match &mut self.held {
+            Some(held) => set_out_held(&self.core, held),
             None => Ok(()),
         }
     }
@@ -336,6 +341,24 @@ impl Running {
         self.saying = said;
         self.said = 0;
         Ok(())
+    }
+
+    /// The session makes this error, if it makes one.
+    fn note_word(&mut self, word: Option<ErrorWord>)
+        ensures { self.new ≡ with_word word self.old }
+    {
+        if word.is_some() {
+            self.unasked.word = word;
+        }
+    }
+
+    /// A list of members came, if one did.
+    fn note_list(&mut self, list: Option<Octets>)
+        ensures { self.new ≡ with_list list self.old }
+    {
+        if list.is_some() {
+            self.unasked.list = list;
+        }
     }
 
     // ---- bytes of the application
@@ -365,7 +388,6 @@ impl Running {
     }
 
     /// What the application's bytes go on with comes into work.
-    #[tactic(auto, using(crate::proofs::Counting::begun_told))]
     fn begin(&mut self, reading: Reading) -> Result<(), NoMemory>
         requires commands { HasCommands reading }
         requires said { self.old.to_say ≡ [] }
@@ -384,13 +406,13 @@ impl Running {
             } => {
                 let said = self.core.begin_fault(&self.rdb, place, error, number)?;
                 self.say(said)?;
-                self.unasked.word = Some(ErrorWord::Syntax);
+                self.note_word(Some(ErrorWord::Syntax));
                 Ok(())
             }
             Reading::TooLong { number } => {
                 let said = self.core.begin_too_long(&self.rdb, number)?;
                 self.say(said)?;
-                self.unasked.word = Some(ErrorWord::Limit);
+                self.note_word(Some(ErrorWord::Limit));
                 Ok(())
             }
         }
@@ -485,7 +507,6 @@ impl Running {
     }
 
     /// No listed member is left.
-    #[tactic(auto, using(crate::proofs::Counting::none_left_told))]
     fn none_left(&mut self) -> Result<(), NoMemory>
         requires { self.old.to_say ≡ [] }
         ensures session { OnOk result (self.new ≡ uncounted (with_none_left self.old)) }
@@ -494,12 +515,11 @@ impl Running {
         let word = none_left_word(self.core.standing().stage(), self.core.owed());
         let said = self.core.end_without_member(&self.rdb)?;
         self.say(said)?;
-        self.unasked.word = Some(word);
+        self.note_word(Some(word));
         Ok(())
     }
 
     /// A limit was passed.
-    #[tactic(auto, using(crate::proofs::Counting::limit_told))]
     fn limit(&mut self, kind: LimitKind) -> Result<(), NoMemory>
         requires { self.old.to_say ≡ [] }
         ensures session { OnOk result (self.new ≡ uncounted (with_limit (seen_kind kind) self.old)) }
@@ -507,7 +527,7 @@ impl Running {
     {
         let said = self.core.close(kind)?;
         self.say(said)?;
-        self.unasked.word = Some(ErrorWord::Limit);
+        self.note_word(Some(ErrorWord::Limit));
         Ok(())
     }
 
@@ -617,7 +637,6 @@ impl Running {
     }
 
     /// Access was given, and the owed error is told.
-    #[tactic(auto, using(crate::proofs::Counting::accepted_told))]
     fn accept(&mut self) -> Result<(), NoMemory>
         requires { self.old.to_say ≡ [] }
         ensures session { OnOk result (self.new ≡ uncounted (with_accepted self.old)) }
@@ -627,7 +646,7 @@ impl Running {
         self.forget_tries();
         let said = self.core.accept(&self.rdb)?;
         self.say(said)?;
-        self.unasked.word = Some(word);
+        self.note_word(Some(word));
         Ok(())
     }
 
@@ -658,7 +677,6 @@ impl Running {
     }
 
     /// The segment in work was answered.
-    #[tactic(auto, using(crate::proofs::Counting::answered_told, crate::proofs::Counting::answered_unlisted))]
     fn answered(&mut self, stripped: Stripped) -> Result<(), NoMemory>
         requires { self.old.to_say ≡ [] }
         ensures session { OnOk result (self.new ≡ uncounted (with_answered stripped self.old)) }
@@ -668,14 +686,10 @@ impl Running {
         let list = mem::replace(&mut stripped.list, None);
         self.forget_tries();
         let said = self.core.answer(&self.rdb, stripped)?;
-        let passed = self.core.end().is_some();
+        let word = limit_word(self.core.end());
         self.say(said)?;
-        if list.is_some() {
-            self.unasked.list = list;
-        }
-        if passed {
-            self.unasked.word = Some(ErrorWord::Limit);
-        }
+        self.note_list(list);
+        self.note_word(word);
         Ok(())
     }
 
@@ -700,21 +714,25 @@ impl Running {
     }
 }
 
-/// Nothing was tried.
-fn no_tries() -> Tries
-    ensures { result ≡ no_tries }
-{
-    Tries {
-        tried: Tried::none(),
-        fresh: false,
-    }
-}
-
 /// Where no conversation is held.
 pub(crate) const NO_MARK: Mark = Mark {
     stage: Stage::New,
     unread: 0,
 };
+
+/// A transport that isn't to be given back goes on so, where it has a conversation.
+fn set_out_held(core: &SessionCore, held: &mut Held) -> Result<(), NoMemory>
+    ensures talk { OnOk result (held.new ≡ record held.old { talk = set_out_by held.old.released held.old.talk core.now }) }
+    ensures member { held.new.member ≡ held.old.member }
+{
+    if held.released {
+        return Ok(());
+    }
+    match &mut held.talk {
+        Some(talk) => set_out(core, talk),
+        None => Ok(()),
+    }
+}
 
 /// A conversation is to lead to where the session stands, and to run the segment in work.
 #[tactic(auto, unfolding(crate::specs::Steps::set_out))]
@@ -766,30 +784,5 @@ fn end_of(tried: Tried, end: CoreEnd) -> End
         CoreEnd::Refused { place } => End::Refused { place },
         CoreEnd::NoMember => End::NoMember { tried },
         CoreEnd::Limit { kind } => End::Limit { kind },
-    }
-}
-
-/// Whether a member is tried at once whose transport is lost so.
-fn is_tried_at_once(why: LossWhy) -> bool
-    ensures { result ≡ is_tried_at_once why }
-{
-    matches!(why, LossWhy::Dial | LossWhy::Refused)
-}
-
-/// What was tried when a transport of this member is lost. Of the losses for other causes the first adds no member: it only asks for
-/// a fresh dial.
-fn tried_once(at_once: bool, member: u32, tries: Tries) -> Tries
-    requires { IsMember member }
-    ensures { result ≡ tried_once at_once member tries }
-{
-    if at_once || tries.fresh {
-        return Tries {
-            tried: tries.tried.with(member),
-            fresh: tries.fresh,
-        };
-    }
-    Tries {
-        tried: tries.tried,
-        fresh: true,
     }
 }

@@ -1,6 +1,6 @@
-ghost use Rattle.std.specs.Prelude.{◌≡◌, ◌≤◌, length, option_copied};
-ghost use Rattle.session_core.specs.Seen.{seen_owed};
-ghost use Rattle.gateway_session.specs.Steps.{none_left_word, accept_word};
+ghost use Rattle.std.specs.Prelude.{◌≡◌, ◌≤◌, length, option_copied, option_map};
+ghost use Rattle.session_core.specs.Seen.{seen_end, seen_owed};
+ghost use Rattle.gateway_session.specs.Steps.{none_left_word, limit_word, accept_word};
 ghost use Rattle.gateway_session.specs.Told.{end_outcome, owed_outcome, none_left_outcome, name_in, most_name};
 
 use crate::loss::ErrorWord;
@@ -8,6 +8,7 @@ use access_handshake::Stage;
 use ddm_codepoints::TypDef;
 use reply_texts::are_characters_in;
 use requester_core::Owed;
+use session_core::CoreEnd;
 use unit_ledger::Outcome;
 use unit_segments::Stripped;
 
@@ -22,6 +23,16 @@ pub(crate) fn none_left_word(stage: Stage, owed: Option<Owed>) -> ErrorWord
         (Stage::Accessed, Some(Owed::Unknown)) => ErrorWord::EndedUnknown,
         (Stage::Accessed, _) => ErrorWord::Ended,
         _ => ErrorWord::NoAccess,
+    }
+}
+
+/// What is told where an answer ended the session: a register limit was passed.
+pub(crate) fn limit_word(end: Option<CoreEnd>) -> Option<ErrorWord>
+    ensures { result ≡ limit_word (option_map seen_end end) }
+{
+    match end {
+        Some(_) => Some(ErrorWord::Limit),
+        None => None,
     }
 }
 
