@@ -1,15 +1,15 @@
 -- What an application's bytes go on with, by what their first DSS comes to.
-use Rattle.std.proofs.Common.{◌≡◌, ℕ, Bool, true, false, if◌then◌else◌, List, [], ◌∷◌, drop, Option, Some, None, option_map, Result, Ok, Err, refl}
+use Rattle.std.proofs.Common.{◌≡◌, Bool, true, false, if◌then◌else◌, List, [], ◌∷◌, drop, Option, Some, None, Result, Ok, Err, refl}
 use Rattle.std.proofs.Common.{sym, ap, ◌∙◌, slice_get}
 use Rattle.dss_frame.specs.declared.dss.Placed.{Placed}
 use Rattle.dss_frame.specs.declared.fault.StreamFault.{StreamFault}
 use Rattle.unit_segments.specs.declared.command.Command.{Command}
 use Rattle.unit_segments.specs.declared.fault.ChainFault.{ChainFault}
 use Rattle.dss_frame.specs.Reading.{View}
-use Rattle.unit_segments.specs.Chain.{OpenChain, no_chain, awaited_after, with_dss, dss_fault, chain_by, chain_step, chain_after}
+use Rattle.unit_segments.specs.Chain.{OpenChain, no_chain, awaited_after, with_dss, chain_by, chain_step, chain_after}
 use Rattle.plain_model.specs.Begun.{Chain}
 use Rattle.session_core.proofs.Commands.{some_is, no_fault, read_is}
-use Rattle.session_core.specs.Incoming.{Incoming, of_frame, of_chain, Next, next_by, next_in, next_of, without_next}
+use Rattle.session_core.specs.Incoming.{Incoming, of_chain, Next, next_by, next_in, next_of, without_next}
 
 -- by its first DSS
 first_comes : (chain : OpenChain) (whole : List Placed) (fault : Option StreamFault) (placed : Placed) (step : Result (Option (List Command)) ChainFault)

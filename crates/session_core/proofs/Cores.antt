@@ -1,5 +1,5 @@
 -- Segments one after another, what runs again where that is nothing, and what an answer makes of the core.
-use Rattle.std.proofs.Common.{◌≡◌, ℕ, zero, suc, ◌+◌, ◌==◌, Bool, true, false, if◌then◌else◌, List, [], ◌∷◌, ◌++◌, drop, Option, Some, None, refl}
+use Rattle.std.proofs.Common.{◌≡◌, ℕ, zero, suc, ◌+◌, ◌==◌, ◌||◌, Bool, true, false, if◌then◌else◌, List, [], ◌∷◌, ◌++◌, drop, Some, None, refl}
 use Rattle.std.proofs.Common.{sym, ap, subst, ◌∙◌, slice_get, add-one, true≢false}
 use Rattle.std.specs.List.{AllByRecursion}
 use Rattle.std.proofs.lemmas.Bool.{cond_both}
@@ -9,21 +9,18 @@ use Rattle.ddm_objects.specs.Objects.{canonical_object}
 use Rattle.reply_texts.specs.Reply.{severity}
 use Rattle.reply_texts.specs.Closing.{last}
 use Rattle.plain_model.specs.Lost.{message}
-use Rattle.ddm_codepoints.specs.CodeClass.{class_of}
 use Rattle.ddm_codepoints.specs.CodePoint.{secchk, accrdb}
 use Rattle.unit_segments.specs.declared.command.Command.{Command}
 use Rattle.unit_segments.specs.declared.stripped.Stripped.{Stripped}
-use Rattle.unit_segments.specs.Segment.{goes_on_a_run}
 use Rattle.unit_segments.specs.Spelling.{chain_bytes}
 use Rattle.plain_model.specs.Standing.{Standing, after_secchk, after_accrdb, after_end}
 use Rattle.plain_model.specs.Group.{IsCommand}
 use Rattle.plain_model.specs.Local.{is_local, answered_locally}
-use Rattle.plain_model.specs.Core.{Core, Owed, Nothing, Rerouted, Unknown, Settled, first, others, first_number, still, moved_too, with_local}
+use Rattle.plain_model.specs.Core.{Core, Owed, Nothing, Rerouted, Unknown, first, others, first_number, still, moved_too, with_local}
 use Rattle.plain_model.specs.Core.{settle_by, settle_segments, settle_owed, settled, finish_by, finished}
 use Rattle.plain_model.specs.Answered.{fit, is_work, joins_again, with_work, with_end, with_replies, standing_after, unit_after, answered_core}
-use Rattle.plain_model.proofs.Staged.{isnt_work}
 use Rattle.session_core.specs.SeenAnswer.{left_by}
-use Rattle.session_core.specs.Seen.{unnumbered, standing_by_access, segment_left}
+use Rattle.session_core.specs.Seen.{unnumbered, stands_by_access, standing_by_access, segment_left}
 
 -- ---- lists
 
@@ -75,27 +72,29 @@ none_fit again e = ap fit e
 
 -- ---- an answer
 
-pub work_stands : (st : Standing) (g : List Command) (r : Stripped) → is_work g ≡ true
-    → standing_after st g r ≡ (if r.ended then after_end st r.sets else st)
-unfolding class_of
-work_stands st [] r work = absurd cc
-work_stands st (c ∷ cs) r work =
-    go (c.code == secchk) (c.code == accrdb) (λ e. isnt_work c secchk e refl work) (λ e. isnt_work c accrdb e refl work)
+pub access_stands : (st : Standing) (g : List Command) (r : Stripped) → stands_by_access g ≡ true
+    → standing_after st g r ≡ standing_by_access st g r.replies
+access_stands st [] r access = refl
+access_stands st (c ∷ cs) r access = go (c.code == secchk) (c.code == accrdb) access
   where
-    go : (a b : Bool) → (a ≡ true → ⊥) → (b ≡ true → ⊥)
+    go : (a b : Bool) → (a || b) ≡ true
+        → (if a then after_secchk st c r.replies else (if b then after_accrdb st c r.replies else (if r.ended then after_end st r.sets else st)))
+        ≡ (if a then after_secchk st c r.replies else (if b then after_accrdb st c r.replies else st))
+    go true b access = refl
+    go false true access = refl
+    go false false access = absurd cc
+
+pub unit_stands : (st : Standing) (g : List Command) (r : Stripped) → stands_by_access g ≡ false
+    → standing_after st g r ≡ (if r.ended then after_end st r.sets else st)
+unit_stands st [] r unit = absurd cc
+unit_stands st (c ∷ cs) r unit = go (c.code == secchk) (c.code == accrdb) unit
+  where
+    go : (a b : Bool) → (a || b) ≡ false
         → (if a then after_secchk st c r.replies else (if b then after_accrdb st c r.replies else (if r.ended then after_end st r.sets else st)))
         ≡ (if r.ended then after_end st r.sets else st)
-    go true b no_a no_b = absurd (no_a refl)
-    go false true no_a no_b = absurd (no_b refl)
-    go false false no_a no_b = refl
-
-pub access_stands : (st : Standing) (g : List Command) (r : Stripped) → r.ended ≡ false
-    → standing_after st g r ≡ standing_by_access st g r.replies
-access_stands st [] r none = refl
-access_stands st (c ∷ cs) r none =
-    ap (λ b. if c.code == secchk then after_secchk st c r.replies
-    else (if c.code == accrdb then after_accrdb st c r.replies
-    else (if b then after_end st r.sets else st))) none
+    go true b unit = absurd cc
+    go false true unit = absurd cc
+    go false false unit = refl
 
 -- the unit of work doesn't depend on where the session stands
 pub stands_then_left : (r : Stripped) (k : Core)

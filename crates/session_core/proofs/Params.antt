@@ -1,9 +1,9 @@
 -- The parameters of a command that is looked into are objects one after another, and those that it needs are there.
-use Rattle.std.proofs.Common.{◌≡◌, ℕ, ◌==◌, ◌-◌, ◌&&◌, Bool, true, false, if◌then◌else◌, List, length, Option, Some, None, is_some, Result, Ok, Err}
+use Rattle.std.proofs.Common.{◌≡◌, ℕ, ◌-◌, ◌&&◌, Bool, true, false, if◌then◌else◌, List, length, Option, Some, None, is_some, Result, Ok, Err}
 use Rattle.std.proofs.Common.{refl, sym, ap, subst, ◌∙◌}
 use Rattle.ddm_objects.specs.declared.fault.ObjFault.{ObjFault}
 use Rattle.ddm_objects.specs.Objects.{Member, outer_of}
-use Rattle.ddm_objects.specs.Members.{members_of, first_with, IsMembers, found_or_fault, find_of}
+use Rattle.ddm_objects.specs.Members.{members_of, first_with, IsMembers, found_or_fault}
 use Rattle.ddm_codepoints.specs.CodeClass.{class_of}
 use Rattle.ddm_codepoints.specs.CodePoint.{accsec, secmec, accrdb, rdbnam}
 use Rattle.access_handshake.specs.Parameter.{parameter}
@@ -12,7 +12,7 @@ use Rattle.access_handshake.specs.Accsec.{has_number, has_secmec}
 use Rattle.access_handshake.specs.Rdbnam.{has_rdbnam}
 use Rattle.unit_segments.specs.declared.command.Command.{Command}
 use Rattle.unit_segments.specs.Command.{BodyFault, code_by, code_of, data_by, data_of, is_looked_into, params_fault, body_fault_by, body_fault}
-use Rattle.unit_segments.specs.Command.{has_needed, has_two_bytes, has}
+use Rattle.unit_segments.specs.Command.{has_needed, has_two_bytes}
 use Rattle.plain_model.specs.Group.{IsCommand}
 
 -- what is known of the parameters of a command with this code point

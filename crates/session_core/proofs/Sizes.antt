@@ -5,7 +5,7 @@ use Rattle.std.proofs.Common.{leb-true, leb-false, zero-add}
 use Rattle.std.proofs.lemmas.Bool.{lt-ltb, le-ltb}
 use Rattle.std.proofs.lemmas.List.{length-take}
 use Rattle.dss_frame.specs.declared.dss.Dss.{Dss}
-use Rattle.dss_frame.specs.Dss.{segment_length, first_room, further_room, further_count, further, header, canonical}
+use Rattle.dss_frame.specs.Dss.{first_room, further_room, further_count, further, canonical}
 use Rattle.unit_segments.specs.Spelling.{linked, joined, join}
 use Rattle.session_core.specs.Size.{spelled_size, room_behind}
 

@@ -1,5 +1,5 @@
 -- What code has for the parts of a session, as the plain model has them. No standard speaks of it: this is this project's own.
-use Rattle.std.specs.Prelude.{ℕ, ◌==◌, true, false, if◌then◌else◌, List, [], ◌∷◌, ◌++◌, Option, Some, None}
+use Rattle.std.specs.Prelude.{◌==◌, ◌||◌, Bool, true, false, if◌then◌else◌, List, [], ◌∷◌, ◌++◌, Option, Some, None}
 use Rattle.dss_frame.specs.declared.dss.Dss.{Dss}
 use Rattle.ddm_codepoints.specs.CodePoint.{secchk, accrdb}
 use Rattle.unit_segments.specs.declared.command.Command.{Command}
@@ -45,6 +45,11 @@ abbrev pub ends_kept : End → Core → After
 ends_kept end k = record { core = record k { kept = []; end = Some end }; said = join k.kept; moved = false }
 
 -- ---- the parts of an answer
+
+-- Whether replies to these commands lead the session by its access alone, and by no unit of work: DDM, volume 3, SECCHK, ACCRDB.
+abbrev pub stands_by_access : List Command → Bool
+stands_by_access [] = true
+stands_by_access (command ∷ commands) = command.code == secchk || command.code == accrdb
 
 -- a command of access that its server answered
 abbrev pub standing_by_access : Standing → List Command → List Dss → Standing

@@ -1,10 +1,10 @@
 -- What code has for the answer to one command without a server, as the plain model has it. No standard speaks of it: this is this
 -- project's own.
-use Rattle.std.specs.Prelude.{ℕ, List, [], ◌++◌, Bool, true, false}
+use Rattle.std.specs.Prelude.{ℕ, List, [], Bool, true, false}
 use Rattle.session_core.specs.declared.local.LocalAnswer.{LocalAnswer as Answer}
 use Rattle.session_core.specs.declared.local.LocalAnswer.TheVariants as answer
 use Rattle.unit_segments.specs.declared.command.Command.{Command}
-use Rattle.plain_model.specs.Local.{LocalAnswer, Refuses, Offers, Moves, Locally, answered_locally, is_local}
+use Rattle.plain_model.specs.Local.{LocalAnswer, Refuses, Offers, Moves, Locally, answered_locally}
 use Rattle.plain_model.specs.Core.{Core, first, others, with_local}
 
 abbrev pub seen_answer : Answer → LocalAnswer

@@ -1,5 +1,4 @@
 -- What code has for what bytes go on with, as the plain model has it. No standard speaks of it: this is this project's own.
-use Rattle.std.specs.Prelude.{ℕ, List}
 use Rattle.std.specs.List.{AllByRecursion}
 use Rattle.session_core.specs.declared.incoming.Reading.{Reading as Read}
 use Rattle.session_core.specs.declared.incoming.Reading.TheVariants as read

@@ -6,16 +6,30 @@ ghost use Rattle.unit_segments.specs.Strip.{is_object_of, tells_error};
 ghost use Rattle.unit_segments.specs.Accepts.{gives_admission, is_admission, has_accrdbrm, is_success, is_good_card, sets_only};
 ghost use Rattle.plain_model.specs.Group.{told_typdef};
 ghost use Rattle.plain_model.specs.Answered.{without_error};
+ghost use Rattle.session_core.specs.Seen.{stands_by_access};
 
 use access_handshake::{find_parameter, read_accepted};
 use ddm_codepoints::TypDef;
-use ddm_codepoints::code_point::{ACCRDBRM, EXCSQLSET, SECCHKCD, SECCHKRM, SQLCARD};
+use ddm_codepoints::code_point::{
+    ACCRDB, ACCRDBRM, EXCSQLSET, SECCHK, SECCHKCD, SECCHKRM, SQLCARD,
+};
 use ddm_codepoints::value::ADMITTED;
 use dss_frame::Dss;
 use link_ends::NoMemory;
 use reply_texts::{Card, read_sqlcard};
 use std::alloc::Global;
 use unit_segments::{Command, data_of, is_object_of, tells_error};
+
+/// Whether the replies to these commands lead the session by its access alone, and by no unit of work: the first is SECCHK or
+/// ACCRDB, or there is none (DDM, volume 3, SECCHK, ACCRDB).
+pub(crate) fn stands_by_access(commands: &[Command]) -> bool
+    ensures { result ≡ stands_by_access commands.now }
+{
+    match commands.first() {
+        Some(command) => command.code == SECCHK || command.code == ACCRDB,
+        None => true,
+    }
+}
 
 /// Whether the first SECCHKRM among these replies says that the user may go on (DDM, volume 3, SECCHKRM).
 pub(crate) fn gives_admission(replies: &[Dss]) -> bool

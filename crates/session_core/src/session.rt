@@ -13,7 +13,9 @@ ghost use Rattle.plain_model.specs.Lost.{lost, owes, accepted, rolled_back_with,
 ghost use Rattle.session_core.specs.Seen.{seen_owed, seen_kind, seen_end, unnumbered, ends_kept, standing_by_access, work_done, segment_left};
 ghost use Rattle.session_core.specs.SeenAnswer.{with_first};
 
-use crate::access::{gives_admission, has_accrdbrm, sets_only, told_typdef, without_error};
+use crate::access::{
+    gives_admission, has_accrdbrm, sets_only, stands_by_access, told_typdef, without_error,
+};
 use crate::end::{CoreEnd, LimitKind};
 use crate::local::{answer_locally, is_local};
 use crate::replies::{ended_card, message, rerouted_card, rolled_back, sqlcard};
@@ -262,18 +264,16 @@ impl SessionCore {
     }
 
     /// The session stands where the replies to the segment lead it.
-    #[tactic(auto, using(crate::proofs::Cores::work_stands, crate::proofs::Cores::access_stands))]
+    #[tactic(auto, using(crate::proofs::Cores::unit_stands, crate::proofs::Cores::access_stands))]
     fn stand(&mut self, stripped: &Stripped) -> Result<Option<RegisterFault>, NoMemory>
         ensures fault { IfOk result (λ fault. fault ≡ register_fault stripped.now self.old) }
         ensures core { OnOk result (self.new ≡ record self.old { standing = standing_after self.old.standing (first self.old.segments) stripped.now }) }
     {
-        if !is_work(self.commands()) {
-            // No reply to a command of access ends a unit of work. Where one did, the registers couldn't be judged.
-            if stripped.ended {
-                return Err(NoMemory);
-            }
+        if stands_by_access(self.commands()) {
+            // The registers are judged by the log as it was: access begins another.
+            let fault = self.standing.register_fault(stripped)?;
             self.stand_by_access(stripped.replies.as_slice())?;
-            return Ok(None);
+            return Ok(fault);
         }
         if stripped.ended {
             return self.standing.end_unit(&stripped.sets);

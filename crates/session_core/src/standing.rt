@@ -1,4 +1,4 @@
-ghost use Rattle.std.specs.Prelude.{◌≡◌, [], IfOk, OnOk};
+ghost use Rattle.std.specs.Prelude.{◌≡◌, [], None, if◌then◌else◌, IfOk, OnOk};
 ghost use Rattle.unit_segments.specs.Registers.{with_sets};
 ghost use Rattle.plain_model.specs.Standing.{new, attached, chosen, checked, accessed, register_typdef, log_with, after_end};
 
@@ -8,7 +8,7 @@ use ddm_codepoints::{TypDef, typdef_of};
 use link_ends::{NoMemory, Octets, OctetsList};
 use std::alloc::Global;
 use std::marker::Model;
-use unit_segments::{RegisterFault, RegisterLog, data_of};
+use unit_segments::{RegisterFault, RegisterLog, Stripped, data_of};
 
 /// Where a session stands with its server, and what leads another server there: what it gave for its access, and its special registers
 /// at the end of the last unit of work.
@@ -110,6 +110,21 @@ impl Standing {
         ensures { result.now ≡ self.now.log }
     {
         &self.log
+    }
+
+    /// What is wrong with the first register that can't be kept, if one can't, where these replies ended a unit of work in which
+    /// registers were set. The log stays as it is.
+    pub(crate) fn register_fault(
+        &self,
+        stripped: &Stripped,
+    ) -> Result<Option<RegisterFault>, NoMemory>
+        ensures { IfOk result (λ fault. fault ≡ (if stripped.now.ended then (log_with self.now stripped.now.sets).fault else None)) }
+    {
+        if !stripped.ended {
+            return Ok(None);
+        }
+        let mut log = self.log.copy()?;
+        add_sets(register_typdef(&self.access), &stripped.sets, &mut log)
     }
 
     /// The unit of work ended, in which these registers were set: what is wrong with the first that can't be kept, if one can't.

@@ -213,6 +213,7 @@ fn one(alloc: Global, kind: Kind, corr: u16, body: &[u8]) -> Result<Stripped, Fa
     Ok(Stripped {
         replies,
         ended: false,
+        committed: false,
         granted: false,
         sets: Sequence::new(alloc),
         list: None,

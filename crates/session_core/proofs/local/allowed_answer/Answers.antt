@@ -6,7 +6,7 @@ use Rattle.ddm_codepoints.specs.CodePoint.{excsat, accsec, accrdb}
 use Rattle.access_handshake.specs.Accsec.{has_secmec}
 use Rattle.access_handshake.specs.Rdbnam.{has_rdbnam}
 use Rattle.unit_segments.specs.Command.{data_of}
-use Rattle.session_core.proofs.Params.{Needed, needed, secmec_there, rdbnam_there}
+use Rattle.session_core.proofs.Params.{needed, secmec_there, rdbnam_there}
 use Rattle.session_core.proofs.local.allowed_answer.Goals as goal
 
 pub answer_excsat-requires-clause-sound : goal.answer_excsat-requires-clause-sound

@@ -1,4 +1,4 @@
-use Rattle.std.proofs.Common.{◌≡◌, sym, subst, ◌∙◌}
+use Rattle.std.proofs.Common.{sym, subst, ◌∙◌}
 use Rattle.std.specs.List.{AllByRecursion}
 use Rattle.plain_model.specs.Group.{IsCommand}
 use Rattle.session_core.proofs.Cores.{first_at, none_at, first_commands}
