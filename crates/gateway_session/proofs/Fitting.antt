@@ -1,5 +1,5 @@
 -- The segment in work: its commands fit a chain, and it goes out on the transport that is held.
-use Rattle.std.proofs.Common.{◌≡◌, List, [], ◌∷◌, Option, Some, None, slice_get, refl}
+use Rattle.std.proofs.Common.{◌≡◌, List, [], ◌∷◌, Option, Some, None, slice_get, refl, subst}
 use Rattle.std.specs.List.{AllByRecursion}
 use Rattle.std.specs.Option.{ForSome}
 use Rattle.unit_segments.specs.declared.command.Command.{Command}
@@ -15,8 +15,10 @@ all_fit (c ∷ commands) all = (all.0.size, all_fit commands all.1)
 
 pub first_fits : (segments : List (List Command)) → AllByRecursion IsCommand (first segments)
     → ForSome (slice_get segments 0) (λ commands. AllByRecursion FitsAChain commands)
-first_fits [] all = tt
-first_fits (g ∷ segments) all = all_fit g all
+first_fits [] all g e = absurd cc
+first_fits (h ∷ segments) all g e =
+    let same : h ≡ g = cc in
+    subst (AllByRecursion FitsAChain) same (all_fit h all)
 
 pub stays : (segments : List (List Command)) (held : Option Held) (k : Core) → slice_get segments 0 ≡ None → set_out_on segments held k ≡ held
 stays [] held k none = refl
