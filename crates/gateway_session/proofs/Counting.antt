@@ -224,10 +224,10 @@ pub begun_ends : (reading : Reading) (k after : Core) (said : List ℕ) (s befor
     → with_word (error_of reading) (says said (uncounted (going_on (with_core after s)))) ≡ uncounted (begun_with reading before)
 begun_ends reading k after said s before is core_is said_is after_is =
     sym (
-      ap (λ (b : Session). uncounted (begun_with reading b)) (sym is ∙ ap (λ (c : Core). record s { core = c }) core_is)
-      ∙ begun_told reading k s
-      ∙ ap (λ (bytes : List ℕ). with_word (error_of reading) (says bytes (uncounted (going_on (with_core (begun s.name reading k).core s))))) (sym said_is)
-      ∙ ap (λ (j : Core). with_word (error_of reading) (says said (uncounted (going_on (with_core j s))))) (sym after_is)
+    ap (λ (b : Session). uncounted (begun_with reading b)) (sym is ∙ ap (λ (c : Core). record s { core = c }) core_is)
+    ∙ begun_told reading k s
+    ∙ ap (λ (bytes : List ℕ). with_word (error_of reading) (says bytes (uncounted (going_on (with_core (begun s.name reading k).core s))))) (sym said_is)
+    ∙ ap (λ (j : Core). with_word (error_of reading) (says said (uncounted (going_on (with_core j s))))) (sym after_is)
     )
 
 pub none_left_ends : (k after : Core) (said : List ℕ) (s before : Session) → s ≡ before → s.core ≡ unnumbered k
@@ -235,10 +235,10 @@ pub none_left_ends : (k after : Core) (said : List ℕ) (s before : Session) →
     → with_word (Some (none_left_word k.standing.stage k.owed)) (says said (uncounted (going_on (with_core after s)))) ≡ uncounted (with_none_left before)
 none_left_ends k after said s before is core_is said_is after_is =
     sym (
-      ap (λ (b : Session). uncounted (with_none_left b)) (sym is ∙ ap (λ (c : Core). record s { core = c }) core_is)
-      ∙ none_left_told k s
-      ∙ ap (λ (bytes : List ℕ). with_word (Some (none_left_word k.standing.stage k.owed)) (says bytes (uncounted (going_on (with_core (none_left s.name k).core s))))) (sym said_is)
-      ∙ ap (λ (j : Core). with_word (Some (none_left_word k.standing.stage k.owed)) (says said (uncounted (going_on (with_core j s))))) (sym after_is)
+    ap (λ (b : Session). uncounted (with_none_left b)) (sym is ∙ ap (λ (c : Core). record s { core = c }) core_is)
+    ∙ none_left_told k s
+    ∙ ap (λ (bytes : List ℕ). with_word (Some (none_left_word k.standing.stage k.owed)) (says bytes (uncounted (going_on (with_core (none_left s.name k).core s))))) (sym said_is)
+    ∙ ap (λ (j : Core). with_word (Some (none_left_word k.standing.stage k.owed)) (says said (uncounted (going_on (with_core j s))))) (sym after_is)
     )
 
 pub limit_ends : (which : LimitKind) (k after : Core) (said : List ℕ) (s before : Session) → s ≡ before → s.core ≡ unnumbered k
@@ -246,10 +246,10 @@ pub limit_ends : (which : LimitKind) (k after : Core) (said : List ℕ) (s befor
     → with_word (Some word.Limit) (says said (uncounted (going_on (with_core after s)))) ≡ uncounted (with_limit which before)
 limit_ends which k after said s before is core_is said_is after_is =
     sym (
-      ap (λ (b : Session). uncounted (with_limit which b)) (sym is ∙ ap (λ (c : Core). record s { core = c }) core_is)
-      ∙ limit_told which k s
-      ∙ ap (λ (bytes : List ℕ). with_word (Some word.Limit) (says bytes (uncounted (going_on (with_core (closed which k).core s))))) (sym said_is)
-      ∙ ap (λ (j : Core). with_word (Some word.Limit) (says said (uncounted (going_on (with_core j s))))) (sym after_is)
+    ap (λ (b : Session). uncounted (with_limit which b)) (sym is ∙ ap (λ (c : Core). record s { core = c }) core_is)
+    ∙ limit_told which k s
+    ∙ ap (λ (bytes : List ℕ). with_word (Some word.Limit) (says bytes (uncounted (going_on (with_core (closed which k).core s))))) (sym said_is)
+    ∙ ap (λ (j : Core). with_word (Some word.Limit) (says said (uncounted (going_on (with_core j s))))) (sym after_is)
     )
 
 pub accepted_ends : (k after : Core) (said : List ℕ) (made : ErrorWord) (s before : Session) → s ≡ untried before → s.core ≡ unnumbered k
@@ -257,12 +257,12 @@ pub accepted_ends : (k after : Core) (said : List ℕ) (made : ErrorWord) (s bef
     → with_word (Some made) (says said (uncounted (going_on (with_core after s)))) ≡ uncounted (with_accepted before)
 accepted_ends k after said made s before is core_is made_is said_is after_is =
     sym (
-      ap (λ (w : ErrorWord). uncounted (with_word (Some w) (with_after (accepted before.name before.core) (untried before)))) (sym made_is)
-      ∙ ap (λ (u : Session). uncounted (with_word (Some made) (with_after (accepted u.name u.core) u)))
-      (sym is ∙ ap (λ (c : Core). record s { core = c }) core_is)
-      ∙ ap (with_word (Some made)) (told (accepted s.name (unnumbered k)) (accepted s.name k) (with_core k s) (accepted_alike s.name k))
-      ∙ ap (λ (bytes : List ℕ). with_word (Some made) (says bytes (uncounted (going_on (with_core (accepted s.name k).core s))))) (sym said_is)
-      ∙ ap (λ (j : Core). with_word (Some made) (says said (uncounted (going_on (with_core j s))))) (sym after_is)
+    ap (λ (w : ErrorWord). uncounted (with_word (Some w) (with_after (accepted before.name before.core) (untried before)))) (sym made_is)
+    ∙ ap (λ (u : Session). uncounted (with_word (Some made) (with_after (accepted u.name u.core) u)))
+    (sym is ∙ ap (λ (c : Core). record s { core = c }) core_is)
+    ∙ ap (with_word (Some made)) (told (accepted s.name (unnumbered k)) (accepted s.name k) (with_core k s) (accepted_alike s.name k))
+    ∙ ap (λ (bytes : List ℕ). with_word (Some made) (says bytes (uncounted (going_on (with_core (accepted s.name k).core s))))) (sym said_is)
+    ∙ ap (λ (j : Core). with_word (Some made) (says said (uncounted (going_on (with_core j s))))) (sym after_is)
     )
 
 -- a list of members isn't looked at
@@ -279,14 +279,14 @@ answered_ends r k after said s before is core_is said_is after_is =
     let alike = answered_alike s.name r k in
     let unlisted : answered s.name (record r { list = None }) k ≡ then = answered_unlisted s.name None r k in
     sym (
-      ap (λ (u : Session). uncounted (with_word (limit_word (answered u.name r u.core).core.end) (with_list r.list (with_after (answered u.name r u.core) u))))
-      (sym is ∙ ap (λ (c : Core). record s { core = c }) core_is)
-      ∙ word_uncounted (limit_word found.core.end) (with_list r.list (with_after found (with_core k s)))
-      ∙ ap (with_word (limit_word found.core.end))
-      (list_uncounted r.list (with_after found (with_core k s)) ∙ ap (with_list r.list) (told found then (with_core k s) alike))
-      ∙ ap (λ (j : Core). with_word (limit_word j.end) (with_list r.list (says then.said (uncounted (going_on (with_core then.core s)))))) alike.core
-      ∙ ap (λ (bytes : List ℕ). with_word (limit_word then.core.end) (with_list r.list (says bytes (uncounted (going_on (with_core then.core s))))))
-      (sym (said_is ∙ ap (λ (x : After). x.said) unlisted))
-      ∙ ap (λ (j : Core). with_word (limit_word j.end) (with_list r.list (says said (uncounted (going_on (with_core j s))))))
-      (sym (after_is ∙ ap (λ (x : After). unnumbered x.core) unlisted))
+    ap (λ (u : Session). uncounted (with_word (limit_word (answered u.name r u.core).core.end) (with_list r.list (with_after (answered u.name r u.core) u))))
+    (sym is ∙ ap (λ (c : Core). record s { core = c }) core_is)
+    ∙ word_uncounted (limit_word found.core.end) (with_list r.list (with_after found (with_core k s)))
+    ∙ ap (with_word (limit_word found.core.end))
+    (list_uncounted r.list (with_after found (with_core k s)) ∙ ap (with_list r.list) (told found then (with_core k s) alike))
+    ∙ ap (λ (j : Core). with_word (limit_word j.end) (with_list r.list (says then.said (uncounted (going_on (with_core then.core s)))))) alike.core
+    ∙ ap (λ (bytes : List ℕ). with_word (limit_word then.core.end) (with_list r.list (says bytes (uncounted (going_on (with_core then.core s))))))
+    (sym (said_is ∙ ap (λ (x : After). x.said) unlisted))
+    ∙ ap (λ (j : Core). with_word (limit_word j.end) (with_list r.list (says said (uncounted (going_on (with_core j s))))))
+    (sym (after_is ∙ ap (λ (x : After). unnumbered x.core) unlisted))
     )

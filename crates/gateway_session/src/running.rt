@@ -23,7 +23,7 @@ use crate::saying::place_behind;
 use crate::told::{
     accept_word, end_outcome, limit_word, name_in, none_left_outcome, none_left_word, owed_outcome,
 };
-use crate::tries::{is_tried_at_once, no_tries, tried_once};
+use crate::tries::{no_tries, tries_after};
 use access_handshake::{Mark, Stage, find_parameter};
 use ddm_codepoints::code_point::USRID;
 use link_ends::{NoMemory, Octets};
@@ -286,16 +286,15 @@ impl Running {
     // ---- a loss
 
     /// The transport that is held, if one is, is lost.
-    #[tactic(auto, unfolding(crate::specs::Steps::after_lost), using(crate::proofs::Counting::lost_uncounted))]
+    #[tactic(auto, unfolding(crate::specs::Steps::after_lost), using(crate::proofs::Losing::loses, crate::proofs::Losing::tries_are))]
     pub(crate) fn lose(&mut self, why: LossWhy)
         ensures { self.new ≡ uncounted (after_lost why self.old) }
     {
         let Some(held) = mem::replace(&mut self.held, None) else {
             return;
         };
-        if self.core.segment().is_some() {
-            self.tries = tried_once(is_tried_at_once(why), held.member, self.tries);
-        }
+        let in_work = self.core.segment().is_some();
+        self.tries = tries_after(in_work, why, held.member, self.tries);
         self.core.lose();
         self.unasked.loss = Some((held.number, why));
     }

@@ -1,4 +1,4 @@
-ghost use Rattle.std.specs.Prelude.{◌≡◌};
+ghost use Rattle.std.specs.Prelude.{◌≡◌, if◌then◌else◌};
 ghost use Rattle.gateway_session.specs.Session.{no_tries};
 ghost use Rattle.gateway_session.specs.Steps.{is_tried_at_once, tried_once};
 ghost use Rattle.gateway_session.specs.Members.{IsMember};
@@ -18,15 +18,27 @@ pub(crate) fn no_tries() -> Tries
 }
 
 /// Whether a member is tried at once whose transport is lost so.
-pub(crate) fn is_tried_at_once(why: LossWhy) -> bool
+fn is_tried_at_once(why: LossWhy) -> bool
     ensures { result ≡ is_tried_at_once why }
 {
     matches!(why, LossWhy::Dial | LossWhy::Refused)
 }
 
-/// What was tried when a transport of this member is lost. Of the losses for other causes the first adds no member: it only asks for
+/// What was tried when a transport of this member is lost so: while no segment is in work nothing is tried.
+pub(crate) fn tries_after(in_work: bool, why: LossWhy, member: u32, tries: Tries) -> Tries
+    requires { IsMember member }
+    ensures { result ≡ (if in_work then tried_once (is_tried_at_once why) member tries else tries) }
+{
+    if in_work {
+        tried_once(is_tried_at_once(why), member, tries)
+    } else {
+        tries
+    }
+}
+
+/// The same of a segment in work. Of the losses for other causes the first adds no member: it only asks for
 /// a fresh dial.
-pub(crate) fn tried_once(at_once: bool, member: u32, tries: Tries) -> Tries
+fn tried_once(at_once: bool, member: u32, tries: Tries) -> Tries
     requires { IsMember member }
     ensures { result ≡ tried_once at_once member tries }
 {
