@@ -132,10 +132,11 @@ set_out_by_uncounted true talk k = refl
 set_out_by_uncounted false None k = refl
 set_out_by_uncounted false (Some t) k = ap (λ (x : Talking). Some x) (set_out_uncounted k t)
 
-pub set_out_on_uncounted : (segments : List (List Command)) (held : Option Held) (k : Core) → set_out_on segments held (unnumbered k) ≡ set_out_on segments held k
-set_out_on_uncounted [] held k = refl
-set_out_on_uncounted (g ∷ segments) None k = refl
-set_out_on_uncounted (g ∷ segments) (Some held) k =
+pub out_uncounted : (segments : List (List Command)) (held : Option Held) (k : Core)
+    → set_out_on segments held (unnumbered k) ≡ set_out_on segments held k
+out_uncounted [] held k = refl
+out_uncounted (g ∷ segments) None k = refl
+out_uncounted (g ∷ segments) (Some held) k =
     ap (λ (talk : Option Talking). Some (record held { talk = talk })) (set_out_by_uncounted held.released held.talk k)
 
 lost_owing_uncounted : (owed : Owed) (k : Core) → unnumbered (lost_owing owed (unnumbered k)) ≡ unnumbered (lost_owing owed k)
@@ -166,7 +167,7 @@ after_lost_uncounted reason s = lost_held_uncounted reason s.held s
 
 going_by_uncounted : (end : Option core.End) (s : Session) → uncounted (going_by end (uncounted s)) ≡ uncounted (going_by end s)
 going_by_uncounted None s =
-    ap (λ (held : Option Held). record (uncounted s) { held = held }) (set_out_on_uncounted s.core.segments s.held s.core)
+    ap (λ (held : Option Held). record (uncounted s) { held = held }) (out_uncounted s.core.segments s.held s.core)
 going_by_uncounted (Some end) s = after_lost_uncounted _ s
 
 pub going_on_uncounted : (s : Session) → uncounted (going_on (uncounted s)) ≡ uncounted (going_on s)
@@ -237,7 +238,8 @@ none_left_ends k after said s before is core_is said_is after_is =
     sym (
     ap (λ (b : Session). uncounted (with_none_left b)) (sym is ∙ ap (λ (c : Core). record s { core = c }) core_is)
     ∙ none_left_told k s
-    ∙ ap (λ (bytes : List ℕ). with_word (Some (none_left_word k.standing.stage k.owed)) (says bytes (uncounted (going_on (with_core (none_left s.name k).core s))))) (sym said_is)
+    ∙ ap (λ (bytes : List ℕ). with_word (Some (none_left_word k.standing.stage k.owed))
+    (says bytes (uncounted (going_on (with_core (none_left s.name k).core s))))) (sym said_is)
     ∙ ap (λ (j : Core). with_word (Some (none_left_word k.standing.stage k.owed)) (says said (uncounted (going_on (with_core j s))))) (sym after_is)
     )
 

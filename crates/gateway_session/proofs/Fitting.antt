@@ -24,11 +24,11 @@ pub stays : (segments : List (List Command)) (held : Option Held) (k : Core) →
 stays [] held k none = refl
 stays (g ∷ segments) held k none = absurd cc
 
-pub goes_out : (segments : List (List Command)) (g : List Command) (held : Held) (k : Core) → slice_get segments 0 ≡ Some g
+pub goes : (segments : List (List Command)) (g : List Command) (held : Held) (k : Core) → slice_get segments 0 ≡ Some g
     → set_out_on segments (Some held) k ≡ Some (record held { talk = set_out_by held.released held.talk k })
-goes_out [] g held k some = absurd cc
-goes_out (h ∷ segments) g held k some = refl
+goes [] g held k some = absurd cc
+goes (h ∷ segments) g held k some = refl
 
-pub goes_nowhere : (segments : List (List Command)) (k : Core) → set_out_on segments None k ≡ None
-goes_nowhere [] k = refl
-goes_nowhere (g ∷ segments) k = refl
+pub no_out : (segments : List (List Command)) (k : Core) → set_out_on segments None k ≡ None
+no_out [] k = refl
+no_out (g ∷ segments) k = refl

@@ -70,5 +70,6 @@ app_end_closes failed s after (Some left) empty is =
     empty.held in
     let after_is : after ≡ uncounted (record s { core = core_left failed s.core; gone = true }) = is ∙ ap uncounted none in (
       ap (λ (a : Session). state_of a (Some left)) after_is,
-      subst (λ (a : Session). ClosesEmpty a (Some left)) (sym after_is) (record { held = empty.held; list = empty.list; word = empty.word; outcome = empty.outcome }),
+      subst (λ (a : Session). ClosesEmpty a (Some left)) (sym after_is)
+          (record { held = empty.held; list = empty.list; word = empty.word; outcome = empty.outcome }),
     )

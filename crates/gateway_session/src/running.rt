@@ -8,7 +8,8 @@ ghost use Rattle.session_core.specs.Seen.{seen_kind, seen_end};
 ghost use Rattle.session_core.specs.SeenReading.{seen_reading, HasCommands};
 ghost use Rattle.gateway_session.specs.Session.{new_session, uncounted, need, need_ended, need_going, need_by_talk, is_released, end_of, mark_by_held};
 ghost use Rattle.gateway_session.specs.Session.{sending_by_held, number_of};
-ghost use Rattle.gateway_session.specs.Steps.{after_lost, going_on, set_out_on, set_out_by, set_out, to_run, says, begin_next, begun_with, after_app, after_said, after_app_end};
+ghost use Rattle.gateway_session.specs.Steps.{after_lost, going_on, set_out_on, set_out_by, set_out, to_run};
+ghost use Rattle.gateway_session.specs.Steps.{says, begin_next, begun_with, after_app, after_said, after_app_end};
 ghost use Rattle.gateway_session.specs.Steps.{after_lend, holding, with_none_left, with_limit, after_dialled, after_given, after_sent, after_back};
 ghost use Rattle.gateway_session.specs.Steps.{got_on, talked_on, with_accepted, with_release, with_whole, with_answered, untried};
 ghost use Rattle.gateway_session.specs.Steps.{with_word, with_list};
@@ -315,7 +316,7 @@ impl Running {
     }
 
     /// The segment in work goes out on the transport that is held.
-    #[tactic(auto, using(crate::proofs::Counting::set_out_on_uncounted, crate::proofs::Fitting::stays, crate::proofs::Fitting::goes_out, crate::proofs::Fitting::goes_nowhere))]
+    #[tactic(auto, using(crate::proofs::Counting::out_uncounted, crate::proofs::Fitting::stays, crate::proofs::Fitting::goes, crate::proofs::Fitting::no_out))]
     fn go_out(&mut self) -> Result<(), NoMemory>
         ensures session { OnOk result (self.new ≡ record self.old { held = set_out_on self.old.core.segments self.old.held self.old.core }) }
         ensures saying { KeepsSaying self.old self.new }
