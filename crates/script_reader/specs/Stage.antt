@@ -1,0 +1,59 @@
+-- The order of the lines of a script. It is this project's choice.
+use Rattle.std.specs.Prelude.{Bool, true, false, if◌then◌else◌, Option, Some, None}
+use Rattle.script_reader.specs.declared.keyword.Keyword.{Keyword}
+use Rattle.script_reader.specs.declared.keyword.Keyword.TheVariants as keyword
+use Rattle.script_reader.specs.declared.stage.Stage.{Stage}
+use Rattle.script_reader.specs.declared.stage.Stage.TheVariants.{Start, AfterRdb, AfterCap, Members, Listed, Numbered, Users, Rows, Body}
+
+-- the header has a name, a cap and a member
+abbrev pub is_whole : Stage → Bool
+is_whole Start = false
+is_whole AfterRdb = false
+is_whole AfterCap = false
+is_whole Members = true
+is_whole Listed = true
+is_whole Numbered = true
+is_whole Users = true
+is_whole Rows = true
+is_whole Body = true
+
+abbrev pub after_member : Stage → Option Stage
+after_member AfterCap = Some Members
+after_member Members = Some Members
+after_member _ = None
+
+-- one list for all members
+abbrev pub after_list : Stage → Option Stage
+after_list Members = Some Listed
+after_list _ = None
+
+-- or lists of single members
+abbrev pub after_numbered : Stage → Option Stage
+after_numbered Members = Some Numbered
+after_numbered Numbered = Some Numbered
+after_numbered _ = None
+
+abbrev pub after_user : Stage → Option Stage
+after_user Members = Some Users
+after_user Listed = Some Users
+after_user Numbered = Some Users
+after_user Users = Some Users
+after_user _ = None
+
+abbrev pub after_row : Stage → Option Stage
+after_row Body = None
+after_row stage = if is_whole stage then Some Rows else None
+
+-- How far the script is after a line with this first word, where it may stand here: rdb, cap, the members, what they send,
+-- the users and the rows in this order, and then the body.
+abbrev pub stage_after : Stage → Keyword → Option Stage
+stage_after Start keyword.Rdb = Some AfterRdb
+stage_after _ keyword.Rdb = None
+stage_after AfterRdb keyword.Cap = Some AfterCap
+stage_after _ keyword.Cap = None
+stage_after stage keyword.Member = after_member stage
+stage_after stage keyword.List = after_list stage
+stage_after stage keyword.NumberedList = after_numbered stage
+stage_after stage keyword.User = after_user stage
+stage_after stage keyword.Row = after_row stage
+stage_after stage _ = if is_whole stage then Some Body else None

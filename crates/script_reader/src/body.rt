@@ -1,0 +1,208 @@
+ghost use Rattle.std.specs.Prelude.{◌≡◌, ◌≤◌, length, ok_or, Ok};
+ghost use Rattle.script_reader.specs.declared.script.ScriptWhy.TheVariants.{Field};
+ghost use Rattle.script_reader.specs.Answers.{Adds, Gives};
+ghost use Rattle.script_reader.specs.Body.{app_of, count_of, idle_app, bytes_read, app_read, start_read, command_added, event_read, event_added, settle_read};
+ghost use Rattle.script_reader.specs.Draft.{with_line, goes_on, next_number, chains_after};
+
+use crate::command::read_command;
+use crate::draft::Draft;
+use crate::fault::LineFault;
+use crate::field::is_name;
+use crate::keyword::Keyword;
+use crate::number::{read_number, read_within};
+use crate::script::{Line, ScriptWhy};
+use crate::weights::read_member;
+use crate::words::{count_words, fourth_word, second_word, third_word};
+use gateway_setup::Event;
+use hex_lines::read_hex;
+use link_ends::Octets;
+use script_commands::{start_chains, write_command};
+use server_list::ServerList;
+use std::alloc::Global;
+
+/// The application that the second word names.
+fn read_app(line: &[u8]) -> Option<u32>
+    ensures { result ≡ app_of line.now }
+{
+    read_within(second_word(line), 1, 64)
+}
+
+/// How many bytes an event moves at most.
+fn read_count(line: &[u8]) -> Option<u32>
+    ensures { result ≡ count_of line.now }
+{
+    read_within(third_word(line), 1, 65_536)
+}
+
+/// The bytes that the third word spells, and none where there are but two words.
+#[tactic(auto, unfolding(crate::specs::Body::bytes_read))]
+fn read_bytes(alloc: Global, line: &[u8]) -> Result<Octets, LineFault>
+    ensures { Gives result (ok_or (bytes_read line.now) Field) }
+{
+    if count_words(line) == 2 {
+        return Ok(Octets::new(alloc));
+    }
+    read_hex(alloc, third_word(line))?.ok_or(LineFault::FIELD)
+}
+
+/// The event that a line with this first word is. None where a field isn't as said, or the line is no event.
+#[tactic(auto, unfolding(crate::specs::Body::event_read))]
+fn read_event(members: &ServerList, keyword: Keyword, line: &[u8]) -> Option<Event>
+    ensures { result ≡ event_read members.now.rows keyword line.now }
+{
+    Some(match keyword {
+        Keyword::Take => Event::Take {
+            app: read_app(line)?,
+            n: read_count(line)?,
+        },
+        Keyword::Send => Event::Send {
+            app: read_app(line)?,
+            n: read_count(line)?,
+        },
+        Keyword::Back => Event::Back {
+            app: read_app(line)?,
+            n: read_count(line)?,
+        },
+        Keyword::Say => Event::Say {
+            app: read_app(line)?,
+            n: read_count(line)?,
+        },
+        Keyword::Act => Event::Act {
+            transport: read_number(second_word(line))?,
+            n: read_count(line)?,
+        },
+        Keyword::Drop => Event::Drop {
+            transport: read_number(second_word(line))?,
+        },
+        Keyword::End => Event::End {
+            app: read_app(line)?,
+        },
+        Keyword::Lend => Event::Lend {
+            app: read_app(line)?,
+        },
+        Keyword::Dial => Event::Dial {
+            app: read_app(line)?,
+        },
+        Keyword::Cut => Event::Cut {
+            app: read_app(line)?,
+        },
+        Keyword::Give => Event::Give {
+            app: read_app(line)?,
+        },
+        Keyword::Down => Event::Down {
+            member: read_member(members, second_word(line))?,
+        },
+        Keyword::Up => Event::Up {
+            member: read_member(members, second_word(line))?,
+        },
+        _ => return None,
+    })
+}
+
+impl Draft {
+    /// A line more in the body.
+    fn add_to_body(&mut self, line: Line) -> Result<(), LineFault>
+        ensures { Adds result self.new (Ok (with_line self.old line)) }
+    {
+        self.lines.push(line)?;
+        Ok(())
+    }
+
+    /// Whether the chain of an application goes on.
+    fn goes_on(&self, app: u32) -> bool
+        requires low { 1 ≤ app }
+        requires high { app ≤ 64 }
+        ensures { result ≡ goes_on self.now.chains app }
+    {
+        self.chains[app as usize - 1].is_some()
+    }
+
+    /// The number of the next command of an application.
+    fn next_number(&self, app: u32) -> u16
+        requires low { 1 ≤ app }
+        requires high { app ≤ 64 }
+        ensures { result ≡ next_number self.now.chains app }
+    {
+        self.chains[app as usize - 1].unwrap_or(1)
+    }
+
+    /// The application that the second word names, whose chain doesn't go on.
+    #[tactic(auto, unfolding(crate::specs::Body::idle_app))]
+    fn read_idle(&self, line: &[u8]) -> Result<u32, LineFault>
+        ensures { Gives result (idle_app self.now line.now) }
+    {
+        let app = read_app(line).ok_or(LineFault::FIELD)?;
+        if self.goes_on(app) {
+            return Err(LineFault::Refused(ScriptWhy::Order));
+        }
+        Ok(app)
+    }
+
+    /// app I, app I HEX
+    #[tactic(auto, unfolding(crate::specs::Body::app_read))]
+    pub fn add_app(&mut self, alloc: Global, line: &[u8]) -> Result<(), LineFault>
+        ensures { Adds result self.new (app_read self.old line.now) }
+    {
+        let app = self.read_idle(line)?;
+        let bytes = read_bytes(alloc, line)?;
+        self.add_to_body(Line::Bytes { app, bytes })
+    }
+
+    /// start I USER PASSWORD
+    #[tactic(auto, unfolding(crate::specs::Body::start_read))]
+    pub fn add_start(&mut self, alloc: Global, line: &[u8]) -> Result<(), LineFault>
+        ensures { Adds result self.new (start_read self.old line.now) }
+    {
+        let app = self.read_idle(line)?;
+        let user = third_word(line);
+        let password = fourth_word(line);
+        if !is_name(user) || !is_name(password) {
+            return Err(LineFault::FIELD);
+        }
+        let bytes = start_chains(alloc, self.name(), user, password)?;
+        self.add_to_body(Line::Bytes { app, bytes })
+    }
+
+    /// A line that is a command, whose chain goes on or doesn't.
+    #[tactic(auto, unfolding(crate::specs::Body::command_added))]
+    pub fn add_command(
+        &mut self,
+        alloc: Global,
+        keyword: Keyword,
+        more: bool,
+        line: &[u8],
+    ) -> Result<(), LineFault>
+        requires { length line.now ≤ 16777216 }
+        ensures { Adds result self.new (ok_or (command_added self.old keyword more line.now) Field) }
+    {
+        let app = read_app(line).ok_or(LineFault::FIELD)?;
+        let number = self.next_number(app);
+        let command = read_command(alloc, keyword, number, self.name(), line)?;
+        let bytes = write_command(alloc, &command, more)?;
+        self.add_to_body(Line::Bytes { app, bytes })?;
+        self.chains[app as usize - 1] = if more {
+            Some(number.wrapping_add(1))
+        } else {
+            None
+        };
+        Ok(())
+    }
+
+    /// A line that is an event.
+    #[tactic(auto, unfolding(crate::specs::Body::event_added))]
+    pub fn add_event(&mut self, keyword: Keyword, line: &[u8]) -> Result<(), LineFault>
+        ensures { Adds result self.new (ok_or (event_added self.old keyword line.now) Field) }
+    {
+        let event = read_event(&self.list, keyword, line).ok_or(LineFault::FIELD)?;
+        self.add_to_body(Line::Event(event))
+    }
+
+    /// settle N
+    #[tactic(auto, unfolding(crate::specs::Body::settle_read))]
+    pub fn add_settle(&mut self, line: &[u8]) -> Result<(), LineFault>
+        ensures { Adds result self.new (ok_or (settle_read self.old line.now) Field) }
+    {
+        let budget = read_within(second_word(line), 1, 1_000_000).ok_or(LineFault::FIELD)?;
+        self.add_to_body(Line::Settle(budget))
+    }
+}

@@ -1,0 +1,110 @@
+ghost use Rattle.std.specs.Prelude.{◌≡◌, ◌≤◌, length, ok_or};
+ghost use Rattle.script_reader.specs.declared.script.ScriptWhy.TheVariants.{Field};
+ghost use Rattle.script_reader.specs.Answers.{Gives};
+ghost use Rattle.script_reader.specs.Command.{statement_read, asks_hold, prepared_read, prepare_read, section_of, section_read, command_read};
+
+use crate::fault::LineFault;
+use crate::field::read_text;
+use crate::keyword::Keyword;
+use crate::number::read_within;
+use crate::words::{behind_second, behind_third, third_word};
+use ddm_codepoints::code_point::{CLSQRY, CNTQRY, EXCSQLIMM, EXCSQLSET, OPNQRY, RDBCMM, RDBRLLBCK};
+use script_commands::{prepare_command, section_command, statement_command, unit_end_command};
+use std::alloc::Global;
+use unit_segments::Command;
+
+/// What stands in front of the text of a statement whose cursor is to be held.
+const HOLD: &[u8] = b"hold ";
+
+/// sql I TEXT, set I TEXT
+fn read_statement(alloc: Global, code: u16, corr: u16, line: &[u8]) -> Result<Command, LineFault>
+    requires { length line.now ≤ 16777216 }
+    ensures { Gives result (ok_or (statement_read code corr line.now) Field) }
+{
+    let text = read_text(behind_second(line)).ok_or(LineFault::FIELD)?;
+    Ok(statement_command(alloc, code, corr, text)?)
+}
+
+/// Whether a text asks for a held cursor.
+fn asks_hold(text: &[u8]) -> bool
+    ensures { result ≡ asks_hold text.now }
+{
+    text.starts_with(HOLD)
+}
+
+/// TEXT, or hold TEXT
+fn read_prepared(
+    alloc: Global,
+    corr: u16,
+    rdb: &[u8],
+    section: u16,
+    text: &[u8],
+) -> Result<Command, LineFault>
+    requires name { length rdb.now ≤ 18 }
+    requires text { length text.now ≤ 16777216 }
+    ensures { Gives result (ok_or (prepared_read corr rdb.now section text.now) Field) }
+{
+    let hold = asks_hold(text);
+    let text = if hold { &text[HOLD.len()..] } else { text };
+    let text = read_text(text).ok_or(LineFault::FIELD)?;
+    Ok(prepare_command(alloc, corr, rdb, section, hold, text)?)
+}
+
+/// The section that the third word names.
+fn read_section(line: &[u8]) -> Option<u16>
+    ensures { result ≡ section_of line.now }
+{
+    let section = read_within(third_word(line), 0, 65_535)?;
+    Some(section as u16)
+}
+
+/// prepare I S TEXT, prepare I S hold TEXT
+fn read_prepare(alloc: Global, corr: u16, rdb: &[u8], line: &[u8]) -> Result<Command, LineFault>
+    requires name { length rdb.now ≤ 18 }
+    requires line { length line.now ≤ 16777216 }
+    ensures { Gives result (ok_or (prepare_read corr rdb.now line.now) Field) }
+{
+    let section = read_section(line).ok_or(LineFault::FIELD)?;
+    read_prepared(alloc, corr, rdb, section, behind_third(line))
+}
+
+/// open I S, fetch I S, close I S
+fn read_of_section(
+    alloc: Global,
+    code: u16,
+    corr: u16,
+    rdb: &[u8],
+    line: &[u8],
+) -> Result<Command, LineFault>
+    requires { length rdb.now ≤ 18 }
+    ensures { Gives result (ok_or (section_read code corr rdb.now line.now) Field) }
+{
+    let section = read_section(line).ok_or(LineFault::FIELD)?;
+    Ok(section_command(alloc, code, corr, rdb, section)?)
+}
+
+/// The command with this number that a line with this first word is. A line that is none is refused.
+#[tactic(auto, unfolding(crate::specs::Command::command_read))]
+pub fn read_command(
+    alloc: Global,
+    keyword: Keyword,
+    corr: u16,
+    rdb: &[u8],
+    line: &[u8],
+) -> Result<Command, LineFault>
+    requires name { length rdb.now ≤ 18 }
+    requires line { length line.now ≤ 16777216 }
+    ensures { Gives result (ok_or (command_read keyword corr rdb.now line.now) Field) }
+{
+    match keyword {
+        Keyword::Sql => read_statement(alloc, EXCSQLIMM, corr, line),
+        Keyword::Set => read_statement(alloc, EXCSQLSET, corr, line),
+        Keyword::Prepare => read_prepare(alloc, corr, rdb, line),
+        Keyword::Open => read_of_section(alloc, OPNQRY, corr, rdb, line),
+        Keyword::Fetch => read_of_section(alloc, CNTQRY, corr, rdb, line),
+        Keyword::Close => read_of_section(alloc, CLSQRY, corr, rdb, line),
+        Keyword::Commit => Ok(unit_end_command(alloc, RDBCMM, corr)?),
+        Keyword::RollBack => Ok(unit_end_command(alloc, RDBRLLBCK, corr)?),
+        _ => Err(LineFault::FIELD),
+    }
+}
