@@ -1,5 +1,6 @@
 ghost use Rattle.std.specs.Prelude.{◌≡◌, ◌++◌, ◌+◌, ◌≤◌, OnOk};
-ghost use Rattle.script_maker.specs.Generator.{group_lines, settle_line, user_line, start_line, end_line, insert_line, cut_line, commit_line, each_line, turn_lines};
+ghost use Rattle.script_maker.specs.Generator.{group_lines, settle_line, user_line, start_line, end_line};
+ghost use Rattle.script_maker.specs.Generator.{insert_line, cut_line, commit_line, each_line, turn_lines};
 
 use link_ends::{NoMemory, Octets};
 use std::alloc::Global;

@@ -1,5 +1,6 @@
 -- What was read of a script so far, and of each application the chain that goes on. Scripts are this project's own.
-use Rattle.std.specs.Prelude.{ℕ, ◌+◌, ◌-◌, ◌%◌, ◌^◌, ◌++◌, ◌∷◌, Bool, is_some, List, [], Option, Some, None, unwrap_or, replicate, slice_index_or, slice_set, if◌then◌else◌}
+use Rattle.std.specs.Prelude.{ℕ, ◌+◌, ◌-◌, ◌%◌, ◌^◌, ◌++◌, ◌∷◌, Bool, is_some, List, [], Option, Some, None, unwrap_or}
+use Rattle.std.specs.Prelude.{replicate, slice_index_or, slice_set, if◌then◌else◌}
 use Rattle.std.specs.List.{list_any}
 use Rattle.reply_texts.specs.RdbName.{characters_of}
 use Rattle.reply_texts.specs.declared.rdb_name.RdbName.{RdbName}

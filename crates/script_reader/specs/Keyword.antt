@@ -4,7 +4,7 @@ use Rattle.std.specs.Str.{bytes_eq}
 use Rattle.std.specs.Option.{option_or}
 use Rattle.script_reader.specs.declared.keyword.Keyword.{Keyword}
 use Rattle.script_reader.specs.declared.keyword.First.{First}
-use Rattle.script_reader.specs.declared.keyword.Keyword.TheVariants.{Rdb, Cap, Member, List as Lists, NumberedList, User, Row, App, Start, Sql, Set, Prepare, Open, Fetch, Close, Commit, RollBack, Take, Send, Back, Say, Act, Drop, End, Lend, Dial, Cut, Give, Down, Up, Settle}
+use Rattle.script_reader.specs.declared.keyword.Keyword.TheVariants as keyword
 
 abbrev pub is_spelled : List ℕ → List ℕ → Bool
 is_spelled name word = bytes_eq word name
@@ -12,52 +12,52 @@ is_spelled name word = bytes_eq word name
 -- the lines of the header
 abbrev pub header_word : List ℕ → Option Keyword
 header_word word =
-    if is_spelled (codes "rdb") word then Some Rdb
-    else (if is_spelled (codes "cap") word then Some Cap
-    else (if is_spelled (codes "member") word then Some Member
-    else (if is_spelled (codes "list") word then Some Lists
-    else (if is_spelled (codes "list2") word then Some NumberedList
-    else (if is_spelled (codes "user") word then Some User
-    else (if is_spelled (codes "row") word then Some Row
+    if is_spelled (codes "rdb") word then Some keyword.Rdb
+    else (if is_spelled (codes "cap") word then Some keyword.Cap
+    else (if is_spelled (codes "member") word then Some keyword.Member
+    else (if is_spelled (codes "list") word then Some keyword.List
+    else (if is_spelled (codes "list2") word then Some keyword.NumberedList
+    else (if is_spelled (codes "user") word then Some keyword.User
+    else (if is_spelled (codes "row") word then Some keyword.Row
     else None))))))
 
 -- the commands, whose chain may go on
 abbrev pub command_word : List ℕ → Option Keyword
 command_word word =
-    if is_spelled (codes "sql") word then Some Sql
-    else (if is_spelled (codes "set") word then Some Set
-    else (if is_spelled (codes "prepare") word then Some Prepare
-    else (if is_spelled (codes "open") word then Some Open
-    else (if is_spelled (codes "fetch") word then Some Fetch
-    else (if is_spelled (codes "close") word then Some Close
-    else (if is_spelled (codes "commit") word then Some Commit
-    else (if is_spelled (codes "rollback") word then Some RollBack
+    if is_spelled (codes "sql") word then Some keyword.Sql
+    else (if is_spelled (codes "set") word then Some keyword.Set
+    else (if is_spelled (codes "prepare") word then Some keyword.Prepare
+    else (if is_spelled (codes "open") word then Some keyword.Open
+    else (if is_spelled (codes "fetch") word then Some keyword.Fetch
+    else (if is_spelled (codes "close") word then Some keyword.Close
+    else (if is_spelled (codes "commit") word then Some keyword.Commit
+    else (if is_spelled (codes "rollback") word then Some keyword.RollBack
     else None)))))))
 
 -- what an application sends, and the events that move bytes
 abbrev pub moving_word : List ℕ → Option Keyword
 moving_word word =
-    if is_spelled (codes "app") word then Some App
-    else (if is_spelled (codes "start") word then Some Start
-    else (if is_spelled (codes "take") word then Some Take
-    else (if is_spelled (codes "send") word then Some Send
-    else (if is_spelled (codes "back") word then Some Back
-    else (if is_spelled (codes "say") word then Some Say
-    else (if is_spelled (codes "act") word then Some Act
+    if is_spelled (codes "app") word then Some keyword.App
+    else (if is_spelled (codes "start") word then Some keyword.Start
+    else (if is_spelled (codes "take") word then Some keyword.Take
+    else (if is_spelled (codes "send") word then Some keyword.Send
+    else (if is_spelled (codes "back") word then Some keyword.Back
+    else (if is_spelled (codes "say") word then Some keyword.Say
+    else (if is_spelled (codes "act") word then Some keyword.Act
     else None))))))
 
 -- the other events, and as many as can be taken
 abbrev pub event_word : List ℕ → Option Keyword
 event_word word =
-    if is_spelled (codes "drop") word then Some Drop
-    else (if is_spelled (codes "end") word then Some End
-    else (if is_spelled (codes "lend") word then Some Lend
-    else (if is_spelled (codes "dial") word then Some Dial
-    else (if is_spelled (codes "cut") word then Some Cut
-    else (if is_spelled (codes "give") word then Some Give
-    else (if is_spelled (codes "down") word then Some Down
-    else (if is_spelled (codes "up") word then Some Up
-    else (if is_spelled (codes "settle") word then Some Settle
+    if is_spelled (codes "drop") word then Some keyword.Drop
+    else (if is_spelled (codes "end") word then Some keyword.End
+    else (if is_spelled (codes "lend") word then Some keyword.Lend
+    else (if is_spelled (codes "dial") word then Some keyword.Dial
+    else (if is_spelled (codes "cut") word then Some keyword.Cut
+    else (if is_spelled (codes "give") word then Some keyword.Give
+    else (if is_spelled (codes "down") word then Some keyword.Down
+    else (if is_spelled (codes "up") word then Some keyword.Up
+    else (if is_spelled (codes "settle") word then Some keyword.Settle
     else None))))))))
 
 abbrev pub keyword_by_name : List ℕ → Option Keyword
@@ -76,34 +76,34 @@ first_of word =
 
 -- how many words a line has, its first word counted; the words of a text are as many as it has
 abbrev pub fits_count : Keyword → ℕ → Bool
-fits_count Rdb count = count == 2
-fits_count Cap count = count == 2
-fits_count Member count = count == 3
-fits_count Lists count = nat_le 2 count
-fits_count NumberedList count = nat_le 4 count
-fits_count User count = count == 3
-fits_count Row count = count == 4
-fits_count App count = count == 2 || count == 3
-fits_count Start count = count == 4
-fits_count Sql count = nat_le 3 count
-fits_count Set count = nat_le 3 count
-fits_count Prepare count = nat_le 4 count
-fits_count Open count = count == 3
-fits_count Fetch count = count == 3
-fits_count Close count = count == 3
-fits_count Commit count = count == 2
-fits_count RollBack count = count == 2
-fits_count Take count = count == 3
-fits_count Send count = count == 3
-fits_count Back count = count == 3
-fits_count Say count = count == 3
-fits_count Act count = count == 3
-fits_count Drop count = count == 2
-fits_count End count = count == 2
-fits_count Lend count = count == 2
-fits_count Dial count = count == 2
-fits_count Cut count = count == 2
-fits_count Give count = count == 2
-fits_count Down count = count == 2
-fits_count Up count = count == 2
-fits_count Settle count = count == 2
+fits_count keyword.Rdb count = count == 2
+fits_count keyword.Cap count = count == 2
+fits_count keyword.Member count = count == 3
+fits_count keyword.List count = nat_le 2 count
+fits_count keyword.NumberedList count = nat_le 4 count
+fits_count keyword.User count = count == 3
+fits_count keyword.Row count = count == 4
+fits_count keyword.App count = count == 2 || count == 3
+fits_count keyword.Start count = count == 4
+fits_count keyword.Sql count = nat_le 3 count
+fits_count keyword.Set count = nat_le 3 count
+fits_count keyword.Prepare count = nat_le 4 count
+fits_count keyword.Open count = count == 3
+fits_count keyword.Fetch count = count == 3
+fits_count keyword.Close count = count == 3
+fits_count keyword.Commit count = count == 2
+fits_count keyword.RollBack count = count == 2
+fits_count keyword.Take count = count == 3
+fits_count keyword.Send count = count == 3
+fits_count keyword.Back count = count == 3
+fits_count keyword.Say count = count == 3
+fits_count keyword.Act count = count == 3
+fits_count keyword.Drop count = count == 2
+fits_count keyword.End count = count == 2
+fits_count keyword.Lend count = count == 2
+fits_count keyword.Dial count = count == 2
+fits_count keyword.Cut count = count == 2
+fits_count keyword.Give count = count == 2
+fits_count keyword.Down count = count == 2
+fits_count keyword.Up count = count == 2
+fits_count keyword.Settle count = count == 2

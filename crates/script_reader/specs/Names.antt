@@ -1,5 +1,5 @@
 -- The users and the rows of a script, of which none comes twice: this project's choice.
-use Rattle.std.specs.Prelude.{◌≡◌, ℕ, List, Bool, ◌&&◌, ◌==◌, ◌++◌, Vec}
+use Rattle.std.specs.Prelude.{◌≡◌, ℕ, ◌^◌, ◌<◌, List, Bool, ◌&&◌, ◌==◌, ◌++◌, Vec}
 use Rattle.std.specs.List.{list_any}
 use Rattle.std.specs.Str.{bytes_eq}
 use Rattle.std.specs.BTreeSet.{BTreeSet}
@@ -29,4 +29,4 @@ KnowsUsers names users = (name : List ℕ) → has_name name names ≡ is_user n
 
 -- the set has the names of the rows, and no others
 abbrev pub KnowsRows : {Z : Type 0} → BTreeSet (Vec ℕ Z) → List Row → Type 0
-KnowsRows names rows = (name : List ℕ) → has_name name names ≡ list_any (λ row. bytes_eq name (row_name row.schema row.key)) rows
+KnowsRows names rows = (schema : List ℕ) (key : ℕ) → key < 2 ^ 32 → has_name (row_name schema key) names ≡ is_row schema key rows

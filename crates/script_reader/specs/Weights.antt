@@ -30,13 +30,14 @@ weight_read members word = do
 abbrev pub row_added : Listing → ServerRow → Option Listing
 row_added list row = if is_listable list.rows row.member then Some (with_row list row) else None
 
+-- the list with the row that a word says
+abbrev pub weight_added : List ServerRow → Listing → List ℕ → Option Listing
+weight_added members list word = weight_read members word >>= λ row. row_added list row
+
 -- the list with a row for each word: no member comes twice
-unfoldable pub weights_read : List ServerRow → Listing → List (List ℕ) → Option Listing
+abbrev pub weights_read : List ServerRow → Listing → List (List ℕ) → Option Listing
 weights_read members list [] = Some list
-weights_read members list (word ∷ words) = do
-  row ← weight_read members word
-  more ← row_added list row
-  weights_read members more words
+weights_read members list (word ∷ words) = weight_added members list word >>= λ more. weights_read members more words
 
 -- each of these members sends this list
 abbrev pub sent_by_all : List (Option Listing) → Listing → List ServerRow → List (Option Listing)

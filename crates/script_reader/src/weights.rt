@@ -1,7 +1,7 @@
 ghost use Rattle.std.specs.Prelude.{◌≡◌};
 ghost use Rattle.std.specs.List.{before_first, after_first};
 ghost use Rattle.server_list.specs.Lists.{no_rows};
-ghost use Rattle.script_reader.specs.Weights.{listed_member, weight_read, row_added, weights_read, sent_by_all};
+ghost use Rattle.script_reader.specs.Weights.{listed_member, weight_read, row_added, weight_added, weights_read, sent_by_all};
 ghost use Rattle.script_reader.specs.Words.{words_of};
 
 use crate::number::read_within;
@@ -45,6 +45,13 @@ fn add_row(mut list: ServerList, row: ServerRow) -> Option<ServerList>
     if list.push(row) { Some(list) } else { None }
 }
 
+/// The list with the row that a word says.
+fn add_weight(members: &ServerList, list: ServerList, word: &[u8]) -> Option<ServerList>
+    ensures { result ≡ weight_added members.now.rows list word.now }
+{
+    add_row(list, read_weight(members, word)?)
+}
+
 /// A list with this number and a row for each word: each names a member of these, and none comes twice.
 pub fn read_weights(members: &ServerList, number: u32, words: &[u8]) -> Option<ServerList>
     ensures { result ≡ weights_read members.now.rows (record no_rows { number = number }) (words_of words.now) }
@@ -54,7 +61,7 @@ pub fn read_weights(members: &ServerList, number: u32, words: &[u8]) -> Option<S
     let mut rest = words;
     loop {
         let (word, after) = cut_at(rest, SPACE);
-        list = add_row(list, read_weight(members, word)?)?;
+        list = add_weight(members, list, word)?;
         if word.len() == rest.len() {
             return Some(list);
         }
