@@ -1,5 +1,7 @@
 -- What is left to read, added to what was read so far, is the whole.
-use Rattle.std.proofs.Common.{◌≡◌, ℕ, ◌+◌, ◌<◌, ◌≤◌, List, [], ◌∷◌, cond, length, Ok, Err, ap, sym, ◌∙◌, arith}
+use Rattle.std.proofs.Common.{◌≡◌, ℕ, ◌+◌, ◌<◌, ◌≤◌, ◌==◌, suc, Bool, true, false, List, [], ◌∷◌, cond, length, get_or, Ok, Err}
+use Rattle.std.proofs.Common.{refl, ap, sym, ◌∙◌, arith}
+use Rattle.std.specs.List.{onto_first}
 use Rattle.std.proofs.lemmas.Bool.{lt-ltb, le-ltb}
 use Rattle.std.proofs.lemmas.List.{nil_from_length}
 use Rattle.script_reader.specs.declared.script.ScriptWhy.{ScriptWhy}
@@ -32,6 +34,23 @@ lines_added-err : (number : ℕ) (draft : DraftText) (why : ScriptWhy) (rest lin
     line_added draft line ≡ Err why → lines_added number draft (lines_of rest) ≡ Err (record { line = number; why = why })
 lines_added-err number draft why rest line after e refused =
     lines_added-cons number draft rest line after e ∙ ap (λ answer. after_line number answer (λ draft. lines_added (number + 1) draft (lines_of after))) refused
+
+onto_first-length : (x : ℕ) (parts : List (List ℕ)) → length (get_or (onto_first x parts) 0 []) ≡ suc (length (get_or parts 0 []))
+onto_first-length x [] = refl
+onto_first-length x (part ∷ parts) = refl
+
+short_step : (x : ℕ) (xs : List ℕ) (b : Bool) → length (get_or (lines_of xs) 0 []) ≤ length xs →
+    length (get_or (cond b ([] ∷ lines_of xs) (onto_first x (lines_of xs))) 0 []) ≤ suc (length xs)
+short_step x xs true h = omega arith
+short_step x xs false h = omega (arith, h, onto_first-length x (lines_of xs))
+
+first_short : (text : List ℕ) → length (get_or (lines_of text) 0 []) ≤ length text
+first_short [] = omega arith
+first_short (x ∷ xs) = short_step x xs (x == 10) (first_short xs)
+
+-- the first line is no longer than the text
+pub line_short : (text line : List ℕ) (others : List (List ℕ)) → lines_of text ≡ line ∷ others → length line ≤ length text
+line_short text line others e = omega (arith, first_short text, ap (λ lines. length (get_or lines 0 [])) e)
 
 pub script_of-long : (text : List ℕ) → most_bytes < length text → script_of text ≡ Err (record { line = 0; why = Long })
 unfolding script_of

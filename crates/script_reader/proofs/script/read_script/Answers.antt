@@ -1,9 +1,14 @@
-use Rattle.std.proofs.Common.{◌≡◌, length, rules}
-use Rattle.script_reader.proofs.Lines.{script_of-long, read_more, read_refused, read_whole}
+use Rattle.std.proofs.Common.{◌≡◌, ◌≤◌, length, arith, rules}
+use Rattle.script_reader.proofs.Lines.{line_short, script_of-long, read_more, read_refused, read_whole}
 use Rattle.script_reader.proofs.script.read_script.Goals as goal
 
 pub returns-then-text-gt-MOST_BYTES : goal.returns-then-text-gt-MOST_BYTES
 returns-then-text-gt-MOST_BYTES c = script_of-long c.args.text.now c.if-text-gt-MOST_BYTES.true
+
+pub add_line-requires : goal.add_line-requires
+add_line-requires c =
+    let short = line_short c.loop-rest.rest.now c.split_line.result.0.now _ c.split_line.ensures.lines in
+    omega (arith, short, c.loop-rest.invariant.counted, c.loop-rest.invariant.short)
 
 pub returns-in-Err : goal.returns-in-Err
 returns-in-Err c =
