@@ -14,7 +14,7 @@ abbrev pub text_data : List ℕ → List ℕ
 text_data text = 0 ∷ (big_bytes 4 (length text) ++ (codes_in Sql370 text ++ (0xFF ∷ [])))
 
 -- SQLSTT: the text of a statement
-abbrev pub sqlstt_object : List ℕ → List ℕ
+unfoldable pub sqlstt_object : List ℕ → List ℕ
 sqlstt_object text = canonical_object sqlstt (text_data text)
 
 -- SQLATTR: what is asked of a statement that is prepared, here that its cursor is held past the end of the unit
@@ -27,5 +27,5 @@ abbrev pub section_data : List ℕ → ℕ → List ℕ
 section_data rdb section =
     padded_name rdb ++ (padded_name (codes "NULLID") ++ (padded_name (codes "SCRIPT") ++ (replicate 8 1 ++ big_bytes 2 section)))
 
-abbrev pub section_object : List ℕ → ℕ → List ℕ
+unfoldable pub section_object : List ℕ → ℕ → List ℕ
 section_object rdb section = canonical_object pkgnamcsn (section_data rdb section)

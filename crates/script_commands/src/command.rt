@@ -33,8 +33,18 @@ pub fn statement_command(
     ensures { IfOk result (λ command. command ≡ statement_command code corr text.now) }
 {
     let mut objects = OctetsList::new(alloc);
-    objects.push(text_object(alloc, SQLSTT, text)?)?;
-    Ok(command(corr, code, object(alloc, code, &[])?, objects))
+    objects.push(sqlstt_object(alloc, text)?)?;
+    let body = object(alloc, code, &[])?;
+    Ok(command(corr, code, body, objects))
+}
+
+/// SQLSTT with the text of a statement. DRDA, volume 3, SQLSTT.
+#[tactic(auto, unfolding(crate::specs::Objects::sqlstt_object))]
+fn sqlstt_object(alloc: Global, text: &[u8]) -> Result<Octets, NoMemory>
+    requires { length text.now ≤ 16777216 }
+    ensures { IfOk result (λ object. object ≡ sqlstt_object text.now) }
+{
+    text_object(alloc, SQLSTT, text)
 }
 
 /// SQLATTR for a cursor that is held. DRDA, volume 3, SQLATTR.
@@ -54,7 +64,7 @@ fn prepared_objects(alloc: Global, hold: bool, text: &[u8]) -> Result<OctetsList
     if hold {
         objects.push(held_object(alloc)?)?;
     }
-    objects.push(text_object(alloc, SQLSTT, text)?)?;
+    objects.push(sqlstt_object(alloc, text)?)?;
     Ok(objects)
 }
 

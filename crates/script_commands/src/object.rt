@@ -92,6 +92,7 @@ fn section_data(rdb: &[u8], section: u16) -> [u8; 64]
 }
 
 /// PKGNAMCSN of a section. DDM, volume 3, PKGNAMCSN.
+#[tactic(auto, unfolding(crate::specs::Objects::section_object))]
 pub(crate) fn section_object(alloc: Global, rdb: &[u8], section: u16) -> Result<Octets, NoMemory>
     requires { length rdb.now ≤ 18 }
     ensures { IfOk result (λ object. object ≡ section_object rdb.now section) }

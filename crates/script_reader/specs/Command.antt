@@ -1,5 +1,5 @@
 -- The commands that a line may be, or None where a field isn't as said. This grammar is this project's choice.
-use Rattle.std.specs.Prelude.{ℕ, Bool, true, false, if◌then◌else◌, List, drop, take, Option, Some, None, option_map, codes}
+use Rattle.std.specs.Prelude.{ℕ, Bool, if◌then◌else◌, List, drop, take, Option, Some, None, option_map, codes}
 use Rattle.std.specs.Str.{bytes_eq}
 use Rattle.ddm_codepoints.specs.CodePoint.{excsqlimm, excsqlset, opnqry, cntqry, clsqry, rdbcmm, rdbrllbck}
 use Rattle.unit_segments.specs.declared.command.Command.{Command}
@@ -19,12 +19,14 @@ statement_read code corr line = option_map (statement_command code corr) (text_r
 abbrev pub asks_hold : List ℕ → Bool
 asks_hold text = bytes_eq (take 5 text) (codes "hold ")
 
+-- the statement of such a text
+abbrev pub without_hold : List ℕ → List ℕ
+without_hold text = if asks_hold text then drop 5 text else text
+
 -- TEXT, or hold TEXT
 abbrev pub prepared_read : ℕ → List ℕ → ℕ → List ℕ → Option Command
 prepared_read corr rdb section text =
-    if asks_hold text
-    then option_map (prepare_command corr rdb section true) (text_read (drop 5 text))
-    else option_map (prepare_command corr rdb section false) (text_read text)
+    option_map (prepare_command corr rdb section (asks_hold text)) (text_read (without_hold text))
 
 abbrev pub section_of : List ℕ → Option ℕ
 section_of line = number_within 0 65535 (word 2 line)

@@ -1,7 +1,7 @@
 ghost use Rattle.std.specs.Prelude.{◌≡◌, ◌≤◌, length, ok_or};
 ghost use Rattle.script_reader.specs.declared.script.ScriptWhy.TheVariants.{Field};
 ghost use Rattle.script_reader.specs.Answers.{Gives};
-ghost use Rattle.script_reader.specs.Command.{statement_read, asks_hold, prepared_read, prepare_read, section_of, section_read, command_read};
+ghost use Rattle.script_reader.specs.Command.{statement_read, asks_hold, without_hold, prepared_read, prepare_read, section_of, section_read, command_read};
 
 use crate::fault::LineFault;
 use crate::field::read_text;
@@ -25,11 +25,15 @@ fn read_statement(alloc: Global, code: u16, corr: u16, line: &[u8]) -> Result<Co
     Ok(statement_command(alloc, code, corr, text)?)
 }
 
-/// Whether a text asks for a held cursor.
-fn asks_hold(text: &[u8]) -> bool
-    ensures { result ≡ asks_hold text.now }
+/// Whether a text asks for a held cursor, and its statement.
+fn cut_hold(text: &[u8]) -> (bool, &[u8])
+    ensures asks { result.0 ≡ asks_hold text.now }
+    ensures statement { result.1.now ≡ without_hold text.now }
 {
-    text.starts_with(HOLD)
+    match text.strip_prefix(HOLD) {
+        Some(statement) => (true, statement),
+        None => (false, text),
+    }
 }
 
 /// TEXT, or hold TEXT
@@ -44,9 +48,8 @@ fn read_prepared(
     requires text { length text.now ≤ 16777216 }
     ensures { Gives result (ok_or (prepared_read corr rdb.now section text.now) Field) }
 {
-    let hold = asks_hold(text);
-    let text = if hold { &text[HOLD.len()..] } else { text };
-    let text = read_text(text).ok_or(LineFault::FIELD)?;
+    let (hold, statement) = cut_hold(text);
+    let text = read_text(statement).ok_or(LineFault::FIELD)?;
     Ok(prepare_command(alloc, corr, rdb, section, hold, text)?)
 }
 

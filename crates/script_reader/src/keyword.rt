@@ -1,6 +1,9 @@
 ghost use Rattle.std.specs.Prelude.{◌≡◌};
 ghost use Rattle.script_reader.specs.Keyword.{header_word, command_word, moving_word, event_word, keyword_by_name, ends_with_plus, first_of, fits_count};
 
+/// What stands at the end of a command whose chain goes on.
+const PLUS: &[u8] = b"+";
+
 /// What the first word of a line says.
 #[derive(Clone, Copy)]
 pub enum Keyword {
@@ -41,67 +44,121 @@ pub enum Keyword {
 fn header_word(word: &[u8]) -> Option<Keyword>
     ensures { result ≡ header_word word.now }
 {
-    match word {
-        b"rdb" => Some(Keyword::Rdb),
-        b"cap" => Some(Keyword::Cap),
-        b"member" => Some(Keyword::Member),
-        b"list" => Some(Keyword::List),
-        b"list2" => Some(Keyword::NumberedList),
-        b"user" => Some(Keyword::User),
-        b"row" => Some(Keyword::Row),
-        _ => None,
+    if word == b"rdb".as_slice() {
+        return Some(Keyword::Rdb);
     }
+    if word == b"cap".as_slice() {
+        return Some(Keyword::Cap);
+    }
+    if word == b"member".as_slice() {
+        return Some(Keyword::Member);
+    }
+    if word == b"list".as_slice() {
+        return Some(Keyword::List);
+    }
+    if word == b"list2".as_slice() {
+        return Some(Keyword::NumberedList);
+    }
+    if word == b"user".as_slice() {
+        return Some(Keyword::User);
+    }
+    if word == b"row".as_slice() {
+        return Some(Keyword::Row);
+    }
+    None
 }
 
 /// The keyword of a command, whose chain may go on.
 fn command_word(word: &[u8]) -> Option<Keyword>
     ensures { result ≡ command_word word.now }
 {
-    match word {
-        b"sql" => Some(Keyword::Sql),
-        b"set" => Some(Keyword::Set),
-        b"prepare" => Some(Keyword::Prepare),
-        b"open" => Some(Keyword::Open),
-        b"fetch" => Some(Keyword::Fetch),
-        b"close" => Some(Keyword::Close),
-        b"commit" => Some(Keyword::Commit),
-        b"rollback" => Some(Keyword::RollBack),
-        _ => None,
+    if word == b"sql".as_slice() {
+        return Some(Keyword::Sql);
     }
+    if word == b"set".as_slice() {
+        return Some(Keyword::Set);
+    }
+    if word == b"prepare".as_slice() {
+        return Some(Keyword::Prepare);
+    }
+    if word == b"open".as_slice() {
+        return Some(Keyword::Open);
+    }
+    if word == b"fetch".as_slice() {
+        return Some(Keyword::Fetch);
+    }
+    if word == b"close".as_slice() {
+        return Some(Keyword::Close);
+    }
+    if word == b"commit".as_slice() {
+        return Some(Keyword::Commit);
+    }
+    if word == b"rollback".as_slice() {
+        return Some(Keyword::RollBack);
+    }
+    None
 }
 
 /// The keyword of what an application sends, or of an event that moves bytes.
 fn moving_word(word: &[u8]) -> Option<Keyword>
     ensures { result ≡ moving_word word.now }
 {
-    match word {
-        b"app" => Some(Keyword::App),
-        b"start" => Some(Keyword::Start),
-        b"take" => Some(Keyword::Take),
-        b"send" => Some(Keyword::Send),
-        b"back" => Some(Keyword::Back),
-        b"say" => Some(Keyword::Say),
-        b"act" => Some(Keyword::Act),
-        _ => None,
+    if word == b"app".as_slice() {
+        return Some(Keyword::App);
     }
+    if word == b"start".as_slice() {
+        return Some(Keyword::Start);
+    }
+    if word == b"take".as_slice() {
+        return Some(Keyword::Take);
+    }
+    if word == b"send".as_slice() {
+        return Some(Keyword::Send);
+    }
+    if word == b"back".as_slice() {
+        return Some(Keyword::Back);
+    }
+    if word == b"say".as_slice() {
+        return Some(Keyword::Say);
+    }
+    if word == b"act".as_slice() {
+        return Some(Keyword::Act);
+    }
+    None
 }
 
 /// The keyword of another event, or of as many as can be taken.
 fn event_word(word: &[u8]) -> Option<Keyword>
     ensures { result ≡ event_word word.now }
 {
-    match word {
-        b"drop" => Some(Keyword::Drop),
-        b"end" => Some(Keyword::End),
-        b"lend" => Some(Keyword::Lend),
-        b"dial" => Some(Keyword::Dial),
-        b"cut" => Some(Keyword::Cut),
-        b"give" => Some(Keyword::Give),
-        b"down" => Some(Keyword::Down),
-        b"up" => Some(Keyword::Up),
-        b"settle" => Some(Keyword::Settle),
-        _ => None,
+    if word == b"drop".as_slice() {
+        return Some(Keyword::Drop);
     }
+    if word == b"end".as_slice() {
+        return Some(Keyword::End);
+    }
+    if word == b"lend".as_slice() {
+        return Some(Keyword::Lend);
+    }
+    if word == b"dial".as_slice() {
+        return Some(Keyword::Dial);
+    }
+    if word == b"cut".as_slice() {
+        return Some(Keyword::Cut);
+    }
+    if word == b"give".as_slice() {
+        return Some(Keyword::Give);
+    }
+    if word == b"down".as_slice() {
+        return Some(Keyword::Down);
+    }
+    if word == b"up".as_slice() {
+        return Some(Keyword::Up);
+    }
+    if word == b"settle".as_slice() {
+        return Some(Keyword::Settle);
+    }
+    None
 }
 
 /// The keyword that is spelled so.
@@ -125,15 +182,15 @@ pub struct First {
 pub fn read_first(word: &[u8]) -> Option<First>
     ensures { result ≡ first_of word.now }
 {
-    match word {
-        [name @ .., b'+'] => {
+    match word.strip_suffix(PLUS) {
+        Some(name) => {
             let keyword = command_word(name)?;
             Some(First {
                 keyword,
                 goes_on: true,
             })
         }
-        _ => {
+        None => {
             let keyword = keyword_by_name(word)?;
             Some(First {
                 keyword,
