@@ -10,7 +10,7 @@ abbrev pub is_spelled : List ℕ → List ℕ → Bool
 is_spelled name word = bytes_eq word name
 
 -- the lines of the header
-abbrev pub header_word : List ℕ → Option Keyword
+unfoldable pub header_word : List ℕ → Option Keyword
 header_word word =
     if is_spelled (codes "rdb") word then Some keyword.Rdb
     else (if is_spelled (codes "cap") word then Some keyword.Cap
@@ -22,7 +22,7 @@ header_word word =
     else None))))))
 
 -- the commands, whose chain may go on
-abbrev pub command_word : List ℕ → Option Keyword
+unfoldable pub command_word : List ℕ → Option Keyword
 command_word word =
     if is_spelled (codes "sql") word then Some keyword.Sql
     else (if is_spelled (codes "set") word then Some keyword.Set
@@ -35,7 +35,7 @@ command_word word =
     else None)))))))
 
 -- what an application sends, and the events that move bytes
-abbrev pub moving_word : List ℕ → Option Keyword
+unfoldable pub moving_word : List ℕ → Option Keyword
 moving_word word =
     if is_spelled (codes "app") word then Some keyword.App
     else (if is_spelled (codes "start") word then Some keyword.Start
@@ -47,7 +47,7 @@ moving_word word =
     else None))))))
 
 -- the other events, and as many as can be taken
-abbrev pub event_word : List ℕ → Option Keyword
+unfoldable pub event_word : List ℕ → Option Keyword
 event_word word =
     if is_spelled (codes "drop") word then Some keyword.Drop
     else (if is_spelled (codes "end") word then Some keyword.End
@@ -60,22 +60,22 @@ event_word word =
     else (if is_spelled (codes "settle") word then Some keyword.Settle
     else None))))))))
 
-abbrev pub keyword_by_name : List ℕ → Option Keyword
-keyword_by_name word = option_or (header_word word) (option_or (command_word word) (option_or (moving_word word) (event_word word)))
+unfoldable pub keyword_by_name : List ℕ → Option Keyword
+keyword_by_name word = option_or (option_or (option_or (header_word word) (command_word word)) (moving_word word)) (event_word word)
 
 -- the word ends with a plus
 abbrev pub ends_with_plus : List ℕ → Bool
 ends_with_plus word = bytes_eq (drop (length word - 1) word) (codes "+")
 
 -- what a first word says, and whether the chain of its command goes on
-abbrev pub first_of : List ℕ → Option First
+unfoldable pub first_of : List ℕ → Option First
 first_of word =
     if ends_with_plus word
     then option_map (λ keyword. record { keyword = keyword; goes_on = true }) (command_word (take (length word - 1) word))
     else option_map (λ keyword. record { keyword = keyword; goes_on = false }) (keyword_by_name word)
 
 -- how many words a line has, its first word counted; the words of a text are as many as it has
-abbrev pub fits_count : Keyword → ℕ → Bool
+unfoldable pub fits_count : Keyword → ℕ → Bool
 fits_count keyword.Rdb count = count == 2
 fits_count keyword.Cap count = count == 2
 fits_count keyword.Member count = count == 3

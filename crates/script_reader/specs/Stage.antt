@@ -17,43 +17,57 @@ is_whole Users = true
 is_whole Rows = true
 is_whole Body = true
 
-abbrev pub after_member : Stage → Option Stage
+unfoldable pub after_rdb : Stage → Option Stage
+after_rdb Start = Some AfterRdb
+after_rdb _ = None
+
+unfoldable pub after_cap : Stage → Option Stage
+after_cap AfterRdb = Some AfterCap
+after_cap _ = None
+
+unfoldable pub after_member : Stage → Option Stage
 after_member AfterCap = Some Members
 after_member Members = Some Members
 after_member _ = None
 
 -- one list for all members
-abbrev pub after_list : Stage → Option Stage
+unfoldable pub after_list : Stage → Option Stage
 after_list Members = Some Listed
 after_list _ = None
 
 -- or lists of single members
-abbrev pub after_numbered : Stage → Option Stage
+unfoldable pub after_numbered : Stage → Option Stage
 after_numbered Members = Some Numbered
 after_numbered Numbered = Some Numbered
 after_numbered _ = None
 
-abbrev pub after_user : Stage → Option Stage
+unfoldable pub after_user : Stage → Option Stage
 after_user Members = Some Users
 after_user Listed = Some Users
 after_user Numbered = Some Users
 after_user Users = Some Users
 after_user _ = None
 
-abbrev pub after_row : Stage → Option Stage
-after_row Body = None
-after_row stage = if is_whole stage then Some Rows else None
+unfoldable pub after_row : Stage → Option Stage
+after_row Members = Some Rows
+after_row Listed = Some Rows
+after_row Numbered = Some Rows
+after_row Users = Some Rows
+after_row Rows = Some Rows
+after_row _ = None
+
+-- after a line of the body
+unfoldable pub after_line_of_body : Stage → Option Stage
+after_line_of_body stage = if is_whole stage then Some Body else None
 
 -- How far the script is after a line with this first word, where it may stand here: rdb, cap, the members, what they send,
 -- the users and the rows in this order, and then the body.
-abbrev pub stage_after : Stage → Keyword → Option Stage
-stage_after Start keyword.Rdb = Some AfterRdb
-stage_after _ keyword.Rdb = None
-stage_after AfterRdb keyword.Cap = Some AfterCap
-stage_after _ keyword.Cap = None
+unfoldable pub stage_after : Stage → Keyword → Option Stage
+stage_after stage keyword.Rdb = after_rdb stage
+stage_after stage keyword.Cap = after_cap stage
 stage_after stage keyword.Member = after_member stage
 stage_after stage keyword.List = after_list stage
 stage_after stage keyword.NumberedList = after_numbered stage
 stage_after stage keyword.User = after_user stage
 stage_after stage keyword.Row = after_row stage
-stage_after stage _ = if is_whole stage then Some Body else None
+stage_after stage _ = after_line_of_body stage

@@ -41,4 +41,4 @@ weights_read members list (word ∷ words) = weight_added members list word >>= 
 
 -- each of these members sends this list
 abbrev pub sent_by_all : List (Option Listing) → Listing → List ServerRow → List (Option Listing)
-sent_by_all sent list members = fold (λ lists row. with_sent lists row.member list) sent members
+sent_by_all sent list members = fold (λ (lists : List (Option Listing)) (row : ServerRow). with_sent lists row.member list) sent members

@@ -41,6 +41,7 @@ pub enum Keyword {
 }
 
 /// The keyword of a line of the header.
+#[tactic(auto, unfolding(crate::specs::Keyword::header_word))]
 fn header_word(word: &[u8]) -> Option<Keyword>
     ensures { result ≡ header_word word.now }
 {
@@ -69,6 +70,7 @@ fn header_word(word: &[u8]) -> Option<Keyword>
 }
 
 /// The keyword of a command, whose chain may go on.
+#[tactic(auto, unfolding(crate::specs::Keyword::command_word))]
 fn command_word(word: &[u8]) -> Option<Keyword>
     ensures { result ≡ command_word word.now }
 {
@@ -100,6 +102,7 @@ fn command_word(word: &[u8]) -> Option<Keyword>
 }
 
 /// The keyword of what an application sends, or of an event that moves bytes.
+#[tactic(auto, unfolding(crate::specs::Keyword::moving_word))]
 fn moving_word(word: &[u8]) -> Option<Keyword>
     ensures { result ≡ moving_word word.now }
 {
@@ -128,6 +131,7 @@ fn moving_word(word: &[u8]) -> Option<Keyword>
 }
 
 /// The keyword of another event, or of as many as can be taken.
+#[tactic(auto, unfolding(crate::specs::Keyword::event_word))]
 fn event_word(word: &[u8]) -> Option<Keyword>
     ensures { result ≡ event_word word.now }
 {
@@ -162,6 +166,7 @@ fn event_word(word: &[u8]) -> Option<Keyword>
 }
 
 /// The keyword that is spelled so.
+#[tactic(auto, unfolding(crate::specs::Keyword::keyword_by_name))]
 fn keyword_by_name(word: &[u8]) -> Option<Keyword>
     ensures { result ≡ keyword_by_name word.now }
 {
@@ -179,6 +184,7 @@ pub struct First {
 }
 
 /// Reads a first word.
+#[tactic(auto, unfolding(crate::specs::Keyword::first_of))]
 pub fn read_first(word: &[u8]) -> Option<First>
     ensures { result ≡ first_of word.now }
 {
@@ -201,6 +207,7 @@ pub fn read_first(word: &[u8]) -> Option<First>
 }
 
 /// Whether a line with this first word may have so many words. Those of a text are as many as it has.
+#[tactic(auto, unfolding(crate::specs::Keyword::fits_count))]
 pub fn fits_count(keyword: Keyword, count: usize) -> bool
     ensures { result ≡ fits_count keyword count }
 {

@@ -1,5 +1,6 @@
 ghost use Rattle.std.specs.Prelude.{◌≡◌};
-ghost use Rattle.script_reader.specs.Stage.{is_whole, after_member, after_list, after_numbered, after_user, after_row, stage_after};
+ghost use Rattle.script_reader.specs.Stage.{is_whole, after_rdb, after_cap, after_member, after_list, after_numbered};
+ghost use Rattle.script_reader.specs.Stage.{after_user, after_row, after_line_of_body, stage_after};
 
 use crate::keyword::Keyword;
 
@@ -32,6 +33,27 @@ pub fn is_whole(stage: Stage) -> bool
     }
 }
 
+#[tactic(auto, unfolding(crate::specs::Stage::after_rdb))]
+fn after_rdb(stage: Stage) -> Option<Stage>
+    ensures { result ≡ after_rdb stage }
+{
+    match stage {
+        Stage::Start => Some(Stage::AfterRdb),
+        _ => None,
+    }
+}
+
+#[tactic(auto, unfolding(crate::specs::Stage::after_cap))]
+fn after_cap(stage: Stage) -> Option<Stage>
+    ensures { result ≡ after_cap stage }
+{
+    match stage {
+        Stage::AfterRdb => Some(Stage::AfterCap),
+        _ => None,
+    }
+}
+
+#[tactic(auto, unfolding(crate::specs::Stage::after_member))]
 fn after_member(stage: Stage) -> Option<Stage>
     ensures { result ≡ after_member stage }
 {
@@ -42,6 +64,7 @@ fn after_member(stage: Stage) -> Option<Stage>
 }
 
 /// After one list for all members.
+#[tactic(auto, unfolding(crate::specs::Stage::after_list))]
 fn after_list(stage: Stage) -> Option<Stage>
     ensures { result ≡ after_list stage }
 {
@@ -52,6 +75,7 @@ fn after_list(stage: Stage) -> Option<Stage>
 }
 
 /// After the list of one member.
+#[tactic(auto, unfolding(crate::specs::Stage::after_numbered))]
 fn after_numbered(stage: Stage) -> Option<Stage>
     ensures { result ≡ after_numbered stage }
 {
@@ -61,6 +85,7 @@ fn after_numbered(stage: Stage) -> Option<Stage>
     }
 }
 
+#[tactic(auto, unfolding(crate::specs::Stage::after_user))]
 fn after_user(stage: Stage) -> Option<Stage>
     ensures { result ≡ after_user stage }
 {
@@ -70,6 +95,7 @@ fn after_user(stage: Stage) -> Option<Stage>
     }
 }
 
+#[tactic(auto, unfolding(crate::specs::Stage::after_row))]
 fn after_row(stage: Stage) -> Option<Stage>
     ensures { result ≡ after_row stage }
 {
@@ -81,19 +107,31 @@ fn after_row(stage: Stage) -> Option<Stage>
     }
 }
 
+/// After a line of the body.
+#[tactic(auto, unfolding(crate::specs::Stage::after_line_of_body))]
+fn after_line_of_body(stage: Stage) -> Option<Stage>
+    ensures { result ≡ after_line_of_body stage }
+{
+    if is_whole(stage) {
+        Some(Stage::Body)
+    } else {
+        None
+    }
+}
+
 /// How far a script is after a line with this first word, where it may stand here.
+#[tactic(auto, unfolding(crate::specs::Stage::stage_after))]
 pub fn stage_after(stage: Stage, keyword: Keyword) -> Option<Stage>
     ensures { result ≡ stage_after stage keyword }
 {
-    match (keyword, stage) {
-        (Keyword::Rdb, Stage::Start) => Some(Stage::AfterRdb),
-        (Keyword::Cap, Stage::AfterRdb) => Some(Stage::AfterCap),
-        (Keyword::Rdb | Keyword::Cap, _) => None,
-        (Keyword::Member, _) => after_member(stage),
-        (Keyword::List, _) => after_list(stage),
-        (Keyword::NumberedList, _) => after_numbered(stage),
-        (Keyword::User, _) => after_user(stage),
-        (Keyword::Row, _) => after_row(stage),
-        _ => is_whole(stage).then_some(Stage::Body),
+    match keyword {
+        Keyword::Rdb => after_rdb(stage),
+        Keyword::Cap => after_cap(stage),
+        Keyword::Member => after_member(stage),
+        Keyword::List => after_list(stage),
+        Keyword::NumberedList => after_numbered(stage),
+        Keyword::User => after_user(stage),
+        Keyword::Row => after_row(stage),
+        _ => after_line_of_body(stage),
     }
 }
