@@ -6,8 +6,11 @@ use Rattle.gateway_setup.specs.declared.event.Event.{Event}
 use Rattle.gateway_setup.specs.declared.event.Event.TheVariants as event
 use Rattle.script_commands.specs.Commands.{command_bytes}
 use Rattle.script_commands.specs.Start.{start_bytes}
-use Rattle.script_reader.specs.declared.keyword.Keyword.{Keyword}
-use Rattle.script_reader.specs.declared.keyword.Keyword.TheVariants as keyword
+use Rattle.script_reader.specs.declared.keyword.CommandWord.{CommandWord}
+use Rattle.script_reader.specs.declared.keyword.MoveWord.{MoveWord}
+use Rattle.script_reader.specs.declared.keyword.MoveWord.TheVariants as move
+use Rattle.script_reader.specs.declared.keyword.StepWord.{StepWord}
+use Rattle.script_reader.specs.declared.keyword.StepWord.TheVariants as step
 use Rattle.script_reader.specs.declared.script.Line.TheVariants as line
 use Rattle.script_reader.specs.declared.script.ScriptWhy.{ScriptWhy}
 use Rattle.script_reader.specs.declared.script.ScriptWhy.TheVariants.{Order, Field}
@@ -63,36 +66,57 @@ start_read draft words = do
       else Err Field
 
 -- a command, whose chain goes on behind it or doesn't
-unfoldable pub command_added : DraftText → Keyword → Bool → List ℕ → Option DraftText
-command_added draft keyword more words =
+unfoldable pub command_added : DraftText → CommandWord → Bool → List ℕ → Option DraftText
+command_added draft command_word more words =
     option_and_then (λ app. option_map (λ command.
     record (with_line draft (line.Bytes app (command_bytes more command))) {
       chains = chains_after draft.chains app (next_number draft.chains app) more;
     })
-    (command_read keyword (next_number draft.chains app) draft.text.rdb words))
+    (command_read command_word (next_number draft.chains app) draft.text.rdb words))
     (app_of words)
 
 -- ---- events
 
--- the event that a line is; None where a field isn't as said, and where the line is no event
-unfoldable pub event_read : List ServerRow → Keyword → List ℕ → Option Event
-event_read members keyword.Take words = option_zip event.Take (app_of words) (count_of words)
-event_read members keyword.Send words = option_zip event.Send (app_of words) (count_of words)
-event_read members keyword.Back words = option_zip event.Back (app_of words) (count_of words)
-event_read members keyword.Say words = option_zip event.Say (app_of words) (count_of words)
-event_read members keyword.Act words = option_zip event.Act (number_of (word 1 words)) (count_of words)
-event_read members keyword.Drop words = option_map event.Drop (number_of (word 1 words))
-event_read members keyword.End words = option_map event.End (app_of words)
-event_read members keyword.Lend words = option_map event.Lend (app_of words)
-event_read members keyword.Dial words = option_map event.Dial (app_of words)
-event_read members keyword.Cut words = option_map event.Cut (app_of words)
-event_read members keyword.Give words = option_map event.Give (app_of words)
-event_read members keyword.Down words = option_map event.Down (listed_member members (word 1 words))
-event_read members keyword.Up words = option_map event.Up (listed_member members (word 1 words))
-event_read members _ words = None
+abbrev pub moved : MoveWord → ℕ → ℕ → Event
+moved move.Take app n = event.Take app n
+moved move.Send app n = event.Send app n
+moved move.Back app n = event.Back app n
+moved move.Say app n = event.Say app n
 
-unfoldable pub event_added : DraftText → Keyword → List ℕ → Option DraftText
-event_added draft keyword words = option_map (λ event. with_line draft (line.Event event)) (event_read draft.text.list.rows keyword words)
+-- take I N, send I N, back I N, say I N
+unfoldable pub move_read : MoveWord → List ℕ → Option Event
+move_read kind words = option_zip (moved kind) (app_of words) (count_of words)
+
+-- act T N
+unfoldable pub act_read : List ℕ → Option Event
+act_read words = option_zip event.Act (number_of (word 1 words)) (count_of words)
+
+-- drop T
+unfoldable pub drop_read : List ℕ → Option Event
+drop_read words = option_map event.Drop (number_of (word 1 words))
+
+abbrev pub stepped : StepWord → ℕ → Event
+stepped step.End app = event.End app
+stepped step.Lend app = event.Lend app
+stepped step.Dial app = event.Dial app
+stepped step.Cut app = event.Cut app
+stepped step.Give app = event.Give app
+
+-- end I, lend I, dial I, cut I, give I
+unfoldable pub step_read : StepWord → List ℕ → Option Event
+step_read kind words = option_map (stepped kind) (app_of words)
+
+-- down M
+unfoldable pub down_read : List ServerRow → List ℕ → Option Event
+down_read members words = option_map event.Down (listed_member members (word 1 words))
+
+-- up M
+unfoldable pub up_read : List ServerRow → List ℕ → Option Event
+up_read members words = option_map event.Up (listed_member members (word 1 words))
+
+-- a line of the body that is this event, or whose fields aren't as said
+abbrev pub with_event : DraftText → Option Event → Result DraftText ScriptWhy
+with_event draft event = ok_or (option_map (λ read. with_line draft (line.Event read)) event) Field
 
 -- settle N: at most so many events
 unfoldable pub settle_read : DraftText → List ℕ → Option DraftText

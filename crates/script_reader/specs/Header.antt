@@ -9,6 +9,8 @@ use Rattle.script_reader.specs.Words.{word, behind, words_of}
 use Rattle.script_reader.specs.Names.{is_user, is_row}
 use Rattle.script_reader.specs.declared.script.ScriptWhy.{ScriptWhy}
 use Rattle.script_reader.specs.declared.script.ScriptWhy.TheVariants.{Field}
+use Rattle.script_reader.specs.declared.keyword.HeaderWord.{HeaderWord}
+use Rattle.script_reader.specs.declared.keyword.HeaderWord.TheVariants as header
 use Rattle.script_reader.specs.ScriptText.{ScriptText}
 use Rattle.script_reader.specs.Draft.{DraftText}
 use Rattle.script_reader.specs.Weights.{◌>>=◌, listed_member, weights_read, sent_by_all}
@@ -58,6 +60,16 @@ row_read text line = do
   if is_name (word 1 line) && is_name (word 3 line) && not (is_row (word 1 line) key text.rows)
       then Some (record text { rows = text.rows ++ record { schema = word 1 line; key = key; text = word 3 line } ∷ [] })
       else None
+
+-- what a line of the header adds
+unfoldable pub header_read : HeaderWord → ScriptText → List ℕ → Option ScriptText
+header_read header.Rdb text line = rdb_read text line
+header_read header.Cap text line = cap_read text line
+header_read header.Member text line = member_read text line
+header_read header.List text line = list_read text line
+header_read header.NumberedList text line = numbered_read text line
+header_read header.User text line = user_read text line
+header_read header.Row text line = row_read text line
 
 -- a header that is read further
 abbrev pub with_text : DraftText → Option ScriptText → Result DraftText ScriptWhy

@@ -10,49 +10,41 @@ use Rattle.script_reader.specs.declared.script.ScriptWhy.TheVariants.{Word, Orde
 use Rattle.script_reader.specs.declared.stage.Stage.{Stage}
 use Rattle.script_reader.specs.Field.{is_printable}
 use Rattle.script_reader.specs.Words.{word, word_count}
-use Rattle.script_reader.specs.declared.keyword.First.{First}
-use Rattle.script_reader.specs.Keyword.{first_of, fits_count}
+use Rattle.script_reader.specs.Keyword.{keyword_of, fits_count}
 use Rattle.script_reader.specs.Stage.{stage_after, is_whole}
 use Rattle.script_reader.specs.ScriptText.{ScriptText}
 use Rattle.script_reader.specs.Draft.{DraftText, start, some_goes_on}
-use Rattle.script_reader.specs.Header.{with_text, rdb_read, cap_read, member_read, list_read, numbered_read, user_read, row_read}
-use Rattle.script_reader.specs.Body.{◌>>=◌, app_read, start_read, command_added, event_added, settle_read}
+use Rattle.script_reader.specs.Header.{with_text, header_read}
+use Rattle.script_reader.specs.Body.{◌>>=◌, app_read, start_read, command_added, settle_read}
+use Rattle.script_reader.specs.Body.{with_event, move_read, act_read, drop_read, step_read, down_read, up_read}
 use Rattle.script_reader.specs.Refusal.{Refusal}
 
 -- what line this is, where it may have so many words
-unfoldable pub words_read : List ℕ → Result First ScriptWhy
+unfoldable pub words_read : List ℕ → Result Keyword ScriptWhy
 words_read line = do
-  first ← ok_or (first_of (word 0 line)) Word
-  if fits_count first.keyword (word_count line) then Ok first else Err Word
+  keyword ← ok_or (keyword_of (word 0 line)) Word
+  if fits_count keyword (word_count line) then Ok keyword else Err Word
 
 -- the fields of a line with this first word
-unfoldable pub fields_read : Keyword → Bool → DraftText → List ℕ → Result DraftText ScriptWhy
-fields_read keyword.Rdb more draft line = with_text draft (rdb_read draft.text line)
-fields_read keyword.Cap more draft line = with_text draft (cap_read draft.text line)
-fields_read keyword.Member more draft line = with_text draft (member_read draft.text line)
-fields_read keyword.List more draft line = with_text draft (list_read draft.text line)
-fields_read keyword.NumberedList more draft line = with_text draft (numbered_read draft.text line)
-fields_read keyword.User more draft line = with_text draft (user_read draft.text line)
-fields_read keyword.Row more draft line = with_text draft (row_read draft.text line)
-fields_read keyword.App more draft line = app_read draft line
-fields_read keyword.Start more draft line = start_read draft line
-fields_read keyword.Sql more draft line = ok_or (command_added draft keyword.Sql more line) Field
-fields_read keyword.Set more draft line = ok_or (command_added draft keyword.Set more line) Field
-fields_read keyword.Prepare more draft line = ok_or (command_added draft keyword.Prepare more line) Field
-fields_read keyword.Open more draft line = ok_or (command_added draft keyword.Open more line) Field
-fields_read keyword.Fetch more draft line = ok_or (command_added draft keyword.Fetch more line) Field
-fields_read keyword.Close more draft line = ok_or (command_added draft keyword.Close more line) Field
-fields_read keyword.Commit more draft line = ok_or (command_added draft keyword.Commit more line) Field
-fields_read keyword.RollBack more draft line = ok_or (command_added draft keyword.RollBack more line) Field
-fields_read keyword.Settle more draft line = ok_or (settle_read draft line) Field
-fields_read event more draft line = ok_or (event_added draft event line) Field
+unfoldable pub fields_read : Keyword → DraftText → List ℕ → Result DraftText ScriptWhy
+fields_read (keyword.Header kind) draft line = with_text draft (header_read kind draft.text line)
+fields_read (keyword.Command kind goes_on) draft line = ok_or (command_added draft kind goes_on line) Field
+fields_read keyword.App draft line = app_read draft line
+fields_read keyword.Start draft line = start_read draft line
+fields_read (keyword.Move kind) draft line = with_event draft (move_read kind line)
+fields_read keyword.Act draft line = with_event draft (act_read line)
+fields_read keyword.Drop draft line = with_event draft (drop_read line)
+fields_read (keyword.Step kind) draft line = with_event draft (step_read kind line)
+fields_read keyword.Down draft line = with_event draft (down_read draft.text.list.rows line)
+fields_read keyword.Up draft line = with_event draft (up_read draft.text.list.rows line)
+fields_read keyword.Settle draft line = ok_or (settle_read draft line) Field
 
 -- The words are judged first, then the order of the lines, and then the fields.
 unfoldable pub words_added : DraftText → List ℕ → Result DraftText ScriptWhy
 words_added draft line = do
   first ← words_read line
-  stage ← ok_or (stage_after draft.stage first.keyword) Order
-  fields_read first.keyword first.goes_on (record draft { stage = stage }) line
+  stage ← ok_or (stage_after draft.stage first) Order
+  fields_read first (record draft { stage = stage }) line
 
 -- Empty lines and comments are skipped, whatever bytes they have.
 unfoldable pub line_added : DraftText → List ℕ → Result DraftText ScriptWhy

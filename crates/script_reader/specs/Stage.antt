@@ -2,6 +2,8 @@
 use Rattle.std.specs.Prelude.{Bool, true, false, if◌then◌else◌, Option, Some, None}
 use Rattle.script_reader.specs.declared.keyword.Keyword.{Keyword}
 use Rattle.script_reader.specs.declared.keyword.Keyword.TheVariants as keyword
+use Rattle.script_reader.specs.declared.keyword.HeaderWord.{HeaderWord}
+use Rattle.script_reader.specs.declared.keyword.HeaderWord.TheVariants as header
 use Rattle.script_reader.specs.declared.stage.Stage.{Stage}
 use Rattle.script_reader.specs.declared.stage.Stage.TheVariants.{Start, AfterRdb, AfterCap, Members, Listed, Numbered, Users, Rows, Body}
 
@@ -60,14 +62,18 @@ after_row _ = None
 unfoldable pub after_line_of_body : Stage → Option Stage
 after_line_of_body stage = if is_whole stage then Some Body else None
 
+-- after a line of the header
+unfoldable pub after_header : Stage → HeaderWord → Option Stage
+after_header stage header.Rdb = after_rdb stage
+after_header stage header.Cap = after_cap stage
+after_header stage header.Member = after_member stage
+after_header stage header.List = after_list stage
+after_header stage header.NumberedList = after_numbered stage
+after_header stage header.User = after_user stage
+after_header stage header.Row = after_row stage
+
 -- How far the script is after a line with this first word, where it may stand here: rdb, cap, the members, what they send,
 -- the users and the rows in this order, and then the body.
 unfoldable pub stage_after : Stage → Keyword → Option Stage
-stage_after stage keyword.Rdb = after_rdb stage
-stage_after stage keyword.Cap = after_cap stage
-stage_after stage keyword.Member = after_member stage
-stage_after stage keyword.List = after_list stage
-stage_after stage keyword.NumberedList = after_numbered stage
-stage_after stage keyword.User = after_user stage
-stage_after stage keyword.Row = after_row stage
+stage_after stage (keyword.Header word) = after_header stage word
 stage_after stage _ = after_line_of_body stage

@@ -1,14 +1,15 @@
 ghost use Rattle.std.specs.Prelude.{◌≡◌, ◌≤◌, length, ok_or, Ok};
 ghost use Rattle.script_reader.specs.declared.script.ScriptWhy.TheVariants.{Field};
 ghost use Rattle.script_reader.specs.Answers.{Adds, Gives};
-ghost use Rattle.script_reader.specs.Body.{app_of, count_of, idle_app, bytes_read, app_read, start_read, command_added, event_read, event_added, settle_read};
+ghost use Rattle.script_reader.specs.Body.{app_of, count_of, idle_app, bytes_read, app_read, start_read, command_added, settle_read};
+ghost use Rattle.script_reader.specs.Body.{moved, move_read, act_read, drop_read, stepped, step_read, down_read, up_read, with_event};
 ghost use Rattle.script_reader.specs.Draft.{with_line, goes_on, next_number, chains_after};
 
 use crate::command::read_command;
 use crate::draft::Draft;
 use crate::fault::LineFault;
 use crate::field::is_name;
-use crate::keyword::Keyword;
+use crate::keyword::{CommandWord, MoveWord, StepWord};
 use crate::number::{read_number, read_within};
 use crate::script::{Line, ScriptWhy};
 use crate::weights::read_member;
@@ -45,58 +46,83 @@ fn read_bytes(alloc: Global, line: &[u8]) -> Result<Octets, LineFault>
     read_hex(alloc, third_word(line))?.ok_or(LineFault::FIELD)
 }
 
-/// The event that a line with this first word is. None where a field isn't as said, or the line is no event.
-#[tactic(auto, unfolding(crate::specs::Body::event_read))]
-fn read_event(members: &ServerList, keyword: Keyword, line: &[u8]) -> Option<Event>
-    ensures { result ≡ event_read members.now.rows keyword line.now }
+fn moved(kind: MoveWord, app: u32, n: u32) -> Event
+    ensures { result ≡ moved kind app n }
 {
-    Some(match keyword {
-        Keyword::Take => Event::Take {
-            app: read_app(line)?,
-            n: read_count(line)?,
-        },
-        Keyword::Send => Event::Send {
-            app: read_app(line)?,
-            n: read_count(line)?,
-        },
-        Keyword::Back => Event::Back {
-            app: read_app(line)?,
-            n: read_count(line)?,
-        },
-        Keyword::Say => Event::Say {
-            app: read_app(line)?,
-            n: read_count(line)?,
-        },
-        Keyword::Act => Event::Act {
-            transport: read_number(second_word(line))?,
-            n: read_count(line)?,
-        },
-        Keyword::Drop => Event::Drop {
-            transport: read_number(second_word(line))?,
-        },
-        Keyword::End => Event::End {
-            app: read_app(line)?,
-        },
-        Keyword::Lend => Event::Lend {
-            app: read_app(line)?,
-        },
-        Keyword::Dial => Event::Dial {
-            app: read_app(line)?,
-        },
-        Keyword::Cut => Event::Cut {
-            app: read_app(line)?,
-        },
-        Keyword::Give => Event::Give {
-            app: read_app(line)?,
-        },
-        Keyword::Down => Event::Down {
-            member: read_member(members, second_word(line))?,
-        },
-        Keyword::Up => Event::Up {
-            member: read_member(members, second_word(line))?,
-        },
-        _ => return None,
-    })
+    match kind {
+        MoveWord::Take => Event::Take { app, n },
+        MoveWord::Send => Event::Send { app, n },
+        MoveWord::Back => Event::Back { app, n },
+        MoveWord::Say => Event::Say { app, n },
+    }
+}
+
+/// take I N, send I N, back I N, say I N
+#[tactic(auto, unfolding(crate::specs::Body::move_read))]
+pub fn read_move(kind: MoveWord, line: &[u8]) -> Option<Event>
+    ensures { result ≡ move_read kind line.now }
+{
+    let app = read_app(line)?;
+    let n = read_count(line)?;
+    Some(moved(kind, app, n))
+}
+
+/// act T N
+#[tactic(auto, unfolding(crate::specs::Body::act_read))]
+pub fn read_act(line: &[u8]) -> Option<Event>
+    ensures { result ≡ act_read line.now }
+{
+    let transport = read_number(second_word(line))?;
+    let n = read_count(line)?;
+    Some(Event::Act { transport, n })
+}
+
+/// drop T
+#[tactic(auto, unfolding(crate::specs::Body::drop_read))]
+pub fn read_drop(line: &[u8]) -> Option<Event>
+    ensures { result ≡ drop_read line.now }
+{
+    let transport = read_number(second_word(line))?;
+    Some(Event::Drop { transport })
+}
+
+fn stepped(kind: StepWord, app: u32) -> Event
+    ensures { result ≡ stepped kind app }
+{
+    match kind {
+        StepWord::End => Event::End { app },
+        StepWord::Lend => Event::Lend { app },
+        StepWord::Dial => Event::Dial { app },
+        StepWord::Cut => Event::Cut { app },
+        StepWord::Give => Event::Give { app },
+    }
+}
+
+/// end I, lend I, dial I, cut I, give I
+#[tactic(auto, unfolding(crate::specs::Body::step_read))]
+pub fn read_step(kind: StepWord, line: &[u8]) -> Option<Event>
+    ensures { result ≡ step_read kind line.now }
+{
+    let app = read_app(line)?;
+    Some(stepped(kind, app))
+}
+
+/// down M
+#[tactic(auto, unfolding(crate::specs::Body::down_read))]
+pub fn read_down(members: &ServerList, line: &[u8]) -> Option<Event>
+    ensures { result ≡ down_read members.now.rows line.now }
+{
+    let member = read_member(members, second_word(line))?;
+    Some(Event::Down { member })
+}
+
+/// up M
+#[tactic(auto, unfolding(crate::specs::Body::up_read))]
+pub fn read_up(members: &ServerList, line: &[u8]) -> Option<Event>
+    ensures { result ≡ up_read members.now.rows line.now }
+{
+    let member = read_member(members, second_word(line))?;
+    Some(Event::Up { member })
 }
 
 impl Draft {
@@ -168,16 +194,16 @@ impl Draft {
     pub fn add_command(
         &mut self,
         alloc: Global,
-        keyword: Keyword,
+        word: CommandWord,
         more: bool,
         line: &[u8],
     ) -> Result<(), LineFault>
         requires { length line.now ≤ 16777216 }
-        ensures { Adds result self.new (ok_or (command_added self.old keyword more line.now) Field) }
+        ensures { Adds result self.new (ok_or (command_added self.old word more line.now) Field) }
     {
         let app = read_app(line).ok_or(LineFault::FIELD)?;
         let number = self.next_number(app);
-        let command = read_command(alloc, keyword, number, self.name(), line)?;
+        let command = read_command(alloc, word, number, self.name(), line)?;
         let bytes = write_command(alloc, &command, more)?;
         self.add_to_body(Line::Bytes { app, bytes })?;
         self.chains[app as usize - 1] = if more {
@@ -188,12 +214,11 @@ impl Draft {
         Ok(())
     }
 
-    /// A line that is an event.
-    #[tactic(auto, unfolding(crate::specs::Body::event_added))]
-    pub fn add_event(&mut self, keyword: Keyword, line: &[u8]) -> Result<(), LineFault>
-        ensures { Adds result self.new (ok_or (event_added self.old keyword line.now) Field) }
+    /// A line that is this event, or whose fields aren't as said.
+    pub fn add_event(&mut self, event: Option<Event>) -> Result<(), LineFault>
+        ensures { Adds result self.new (with_event self.old event) }
     {
-        let event = read_event(&self.list, keyword, line).ok_or(LineFault::FIELD)?;
+        let event = event.ok_or(LineFault::FIELD)?;
         self.add_to_body(Line::Event(event))
     }
 

@@ -5,7 +5,7 @@ ghost use Rattle.script_reader.specs.Command.{statement_read, asks_hold, without
 
 use crate::fault::LineFault;
 use crate::field::read_text;
-use crate::keyword::Keyword;
+use crate::keyword::CommandWord;
 use crate::number::read_within;
 use crate::words::{behind_second, behind_third, third_word};
 use ddm_codepoints::code_point::{CLSQRY, CNTQRY, EXCSQLIMM, EXCSQLSET, OPNQRY, RDBCMM, RDBRLLBCK};
@@ -17,6 +17,7 @@ use unit_segments::Command;
 const HOLD: &[u8] = b"hold ";
 
 /// sql I TEXT, set I TEXT
+#[tactic(auto, unfolding(crate::specs::Command::statement_read))]
 fn read_statement(alloc: Global, code: u16, corr: u16, line: &[u8]) -> Result<Command, LineFault>
     requires { length line.now ≤ 16777216 }
     ensures { Gives result (ok_or (statement_read code corr line.now) Field) }
@@ -37,6 +38,7 @@ fn cut_hold(text: &[u8]) -> (bool, &[u8])
 }
 
 /// TEXT, or hold TEXT
+#[tactic(auto, unfolding(crate::specs::Command::prepared_read))]
 fn read_prepared(
     alloc: Global,
     corr: u16,
@@ -62,6 +64,7 @@ fn read_section(line: &[u8]) -> Option<u16>
 }
 
 /// prepare I S TEXT, prepare I S hold TEXT
+#[tactic(auto, unfolding(crate::specs::Command::prepare_read))]
 fn read_prepare(alloc: Global, corr: u16, rdb: &[u8], line: &[u8]) -> Result<Command, LineFault>
     requires name { length rdb.now ≤ 18 }
     requires line { length line.now ≤ 16777216 }
@@ -72,6 +75,7 @@ fn read_prepare(alloc: Global, corr: u16, rdb: &[u8], line: &[u8]) -> Result<Com
 }
 
 /// open I S, fetch I S, close I S
+#[tactic(auto, unfolding(crate::specs::Command::section_read))]
 fn read_of_section(
     alloc: Global,
     code: u16,
@@ -86,28 +90,27 @@ fn read_of_section(
     Ok(section_command(alloc, code, corr, rdb, section)?)
 }
 
-/// The command with this number that a line with this first word is. A line that is none is refused.
+/// The command with this number that a line with this first word is.
 #[tactic(auto, unfolding(crate::specs::Command::command_read))]
 pub fn read_command(
     alloc: Global,
-    keyword: Keyword,
+    word: CommandWord,
     corr: u16,
     rdb: &[u8],
     line: &[u8],
 ) -> Result<Command, LineFault>
     requires name { length rdb.now ≤ 18 }
     requires line { length line.now ≤ 16777216 }
-    ensures { Gives result (ok_or (command_read keyword corr rdb.now line.now) Field) }
+    ensures { Gives result (ok_or (command_read word corr rdb.now line.now) Field) }
 {
-    match keyword {
-        Keyword::Sql => read_statement(alloc, EXCSQLIMM, corr, line),
-        Keyword::Set => read_statement(alloc, EXCSQLSET, corr, line),
-        Keyword::Prepare => read_prepare(alloc, corr, rdb, line),
-        Keyword::Open => read_of_section(alloc, OPNQRY, corr, rdb, line),
-        Keyword::Fetch => read_of_section(alloc, CNTQRY, corr, rdb, line),
-        Keyword::Close => read_of_section(alloc, CLSQRY, corr, rdb, line),
-        Keyword::Commit => Ok(unit_end_command(alloc, RDBCMM, corr)?),
-        Keyword::RollBack => Ok(unit_end_command(alloc, RDBRLLBCK, corr)?),
-        _ => Err(LineFault::FIELD),
+    match word {
+        CommandWord::Sql => read_statement(alloc, EXCSQLIMM, corr, line),
+        CommandWord::Set => read_statement(alloc, EXCSQLSET, corr, line),
+        CommandWord::Prepare => read_prepare(alloc, corr, rdb, line),
+        CommandWord::Open => read_of_section(alloc, OPNQRY, corr, rdb, line),
+        CommandWord::Fetch => read_of_section(alloc, CNTQRY, corr, rdb, line),
+        CommandWord::Close => read_of_section(alloc, CLSQRY, corr, rdb, line),
+        CommandWord::Commit => Ok(unit_end_command(alloc, RDBCMM, corr)?),
+        CommandWord::RollBack => Ok(unit_end_command(alloc, RDBRLLBCK, corr)?),
     }
 }

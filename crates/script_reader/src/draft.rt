@@ -3,9 +3,10 @@ ghost use Rattle.script_reader.specs.Answers.{Adds, Gives, Reads};
 ghost use Rattle.script_reader.specs.Draft.{start, some_goes_on};
 ghost use Rattle.script_reader.specs.Script.{words_read, fields_read, words_added, line_added, is_finished, lines_added};
 
+use crate::body::{read_act, read_down, read_drop, read_move, read_step, read_up};
 use crate::fault::LineFault;
 use crate::field::is_printable;
-use crate::keyword::{First, Keyword, fits_count, read_first};
+use crate::keyword::{Keyword, fits_count, read_keyword};
 use crate::rows::Rows;
 use crate::script::{Line, Script, ScriptFault, ScriptWhy};
 use crate::stage::{Stage, is_whole, stage_after};
@@ -61,12 +62,16 @@ impl Model for Draft {
 
 /// What line this is, where it may have so many words.
 #[tactic(auto, unfolding(crate::specs::Script::words_read))]
-fn read_words(line: &[u8]) -> Result<First, LineFault>
+fn read_words(line: &[u8]) -> Result<Keyword, LineFault>
     ensures { Gives result (words_read line.now) }
 {
-    match read_first(first_word(line)) {
-        Some(first) if fits_count(first.keyword, count_words(line)) => Ok(first),
-        _ => Err(LineFault::Refused(ScriptWhy::Word)),
+    let Some(keyword) = read_keyword(first_word(line)) else {
+        return Err(LineFault::Refused(ScriptWhy::Word));
+    };
+    if fits_count(keyword, count_words(line)) {
+        Ok(keyword)
+    } else {
+        Err(LineFault::Refused(ScriptWhy::Word))
     }
 }
 
@@ -101,28 +106,22 @@ impl Draft {
 
     /// Adds the fields of a line with this first word. The line has as many words as that wants.
     #[tactic(auto, unfolding(crate::specs::Script::fields_read))]
-    fn add_fields(&mut self, alloc: Global, first: First, line: &[u8]) -> Result<(), LineFault>
+    fn add_fields(&mut self, alloc: Global, keyword: Keyword, line: &[u8]) -> Result<(), LineFault>
         requires { length line.now ≤ 16777216 }
-        ensures { Adds result self.new (fields_read first.keyword first.goes_on self.old line.now) }
+        ensures { Adds result self.new (fields_read keyword self.old line.now) }
     {
-        match first.keyword {
-            Keyword::Rdb => self.add_rdb(line),
-            Keyword::Cap => self.add_cap(line),
-            Keyword::Member => self.add_member(line),
-            Keyword::List => self.add_list(line),
-            Keyword::NumberedList => self.add_numbered(line),
-            Keyword::User => self.add_user(alloc, line),
-            Keyword::Row => self.add_row(alloc, line),
+        match keyword {
+            Keyword::Header(kind) => self.add_header(alloc, kind, line),
+            Keyword::Command(kind, goes_on) => self.add_command(alloc, kind, goes_on, line),
             Keyword::App => self.add_app(alloc, line),
             Keyword::Start => self.add_start(alloc, line),
-            Keyword::Sql | Keyword::Set | Keyword::Prepare | Keyword::Open => {
-                self.add_command(alloc, first.keyword, first.goes_on, line)
-            }
-            Keyword::Fetch | Keyword::Close | Keyword::Commit | Keyword::RollBack => {
-                self.add_command(alloc, first.keyword, first.goes_on, line)
-            }
+            Keyword::Move(kind) => self.add_event(read_move(kind, line)),
+            Keyword::Act => self.add_event(read_act(line)),
+            Keyword::Drop => self.add_event(read_drop(line)),
+            Keyword::Step(kind) => self.add_event(read_step(kind, line)),
+            Keyword::Down => self.add_event(read_down(&self.list, line)),
+            Keyword::Up => self.add_event(read_up(&self.list, line)),
             Keyword::Settle => self.add_settle(line),
-            event => self.add_event(event, line),
         }
     }
 
@@ -132,12 +131,12 @@ impl Draft {
         requires { length line.now ≤ 16777216 }
         ensures { Adds result self.new (words_added self.old line.now) }
     {
-        let first = read_words(line)?;
-        let Some(stage) = stage_after(self.stage, first.keyword) else {
+        let keyword = read_words(line)?;
+        let Some(stage) = stage_after(self.stage, keyword) else {
             return Err(LineFault::Refused(ScriptWhy::Order));
         };
         self.stage = stage;
-        self.add_fields(alloc, first, line)
+        self.add_fields(alloc, keyword, line)
     }
 
     /// Adds a line.

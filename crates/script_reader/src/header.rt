@@ -1,10 +1,11 @@
 ghost use Rattle.std.specs.Prelude.{◌≡◌};
 ghost use Rattle.script_reader.specs.Answers.{Adds};
-ghost use Rattle.script_reader.specs.Header.{with_text, rdb_read, cap_read, member_read, list_read, numbered_read, user_read, row_read};
+ghost use Rattle.script_reader.specs.Header.{with_text, rdb_read, cap_read, member_read, list_read, numbered_read, user_read, row_read, header_read};
 
 use crate::draft::Draft;
 use crate::fault::LineFault;
 use crate::field::is_name;
+use crate::keyword::HeaderWord;
 use crate::number::read_within;
 use crate::weights::{read_member, read_weights, send_by_all};
 use crate::words::{behind_first, behind_third, fourth_word, second_word, third_word};
@@ -13,9 +14,25 @@ use server_list::ServerRow;
 use std::alloc::Global;
 
 impl Draft {
+    /// A line of the header with this first word.
+    #[tactic(auto, unfolding(crate::specs::Header::header_read))]
+    pub fn add_header(&mut self, alloc: Global, word: HeaderWord, line: &[u8]) -> Result<(), LineFault>
+        ensures { Adds result self.new (with_text self.old (header_read word self.old.text line.now)) }
+    {
+        match word {
+            HeaderWord::Rdb => self.add_rdb(line),
+            HeaderWord::Cap => self.add_cap(line),
+            HeaderWord::Member => self.add_member(line),
+            HeaderWord::List => self.add_list(line),
+            HeaderWord::NumberedList => self.add_numbered(line),
+            HeaderWord::User => self.add_user(alloc, line),
+            HeaderWord::Row => self.add_row(alloc, line),
+        }
+    }
+
     /// rdb NAME
     #[tactic(auto, unfolding(crate::specs::Header::rdb_read))]
-    pub fn add_rdb(&mut self, line: &[u8]) -> Result<(), LineFault>
+    fn add_rdb(&mut self, line: &[u8]) -> Result<(), LineFault>
         ensures { Adds result self.new (with_text self.old (rdb_read self.old.text line.now)) }
     {
         let name = RdbName::of(second_word(line)).ok_or(LineFault::FIELD)?;
@@ -25,7 +42,7 @@ impl Draft {
 
     /// cap N
     #[tactic(auto, unfolding(crate::specs::Header::cap_read))]
-    pub fn add_cap(&mut self, line: &[u8]) -> Result<(), LineFault>
+    fn add_cap(&mut self, line: &[u8]) -> Result<(), LineFault>
         ensures { Adds result self.new (with_text self.old (cap_read self.old.text line.now)) }
     {
         self.cap = read_within(second_word(line), 1, 32).ok_or(LineFault::FIELD)?;
@@ -34,7 +51,7 @@ impl Draft {
 
     /// member M W
     #[tactic(auto, unfolding(crate::specs::Header::member_read))]
-    pub fn add_member(&mut self, line: &[u8]) -> Result<(), LineFault>
+    fn add_member(&mut self, line: &[u8]) -> Result<(), LineFault>
         ensures { Adds result self.new (with_text self.old (member_read self.old.text line.now)) }
     {
         let member = read_within(second_word(line), 1, 32).ok_or(LineFault::FIELD)?;
@@ -51,7 +68,7 @@ impl Draft {
 
     /// list M=W ..
     #[tactic(auto, unfolding(crate::specs::Header::list_read))]
-    pub fn add_list(&mut self, line: &[u8]) -> Result<(), LineFault>
+    fn add_list(&mut self, line: &[u8]) -> Result<(), LineFault>
         ensures { Adds result self.new (with_text self.old (list_read self.old.text line.now)) }
     {
         let list = read_weights(&self.list, 0, behind_first(line)).ok_or(LineFault::FIELD)?;
@@ -61,7 +78,7 @@ impl Draft {
 
     /// list2 M N K=W ..
     #[tactic(auto, unfolding(crate::specs::Header::numbered_read))]
-    pub fn add_numbered(&mut self, line: &[u8]) -> Result<(), LineFault>
+    fn add_numbered(&mut self, line: &[u8]) -> Result<(), LineFault>
         ensures { Adds result self.new (with_text self.old (numbered_read self.old.text line.now)) }
     {
         let member = read_member(&self.list, second_word(line)).ok_or(LineFault::FIELD)?;
@@ -76,7 +93,7 @@ impl Draft {
 
     /// user NAME PASSWORD
     #[tactic(auto, unfolding(crate::specs::Header::user_read))]
-    pub fn add_user(&mut self, alloc: Global, line: &[u8]) -> Result<(), LineFault>
+    fn add_user(&mut self, alloc: Global, line: &[u8]) -> Result<(), LineFault>
         ensures { Adds result self.new (with_text self.old (user_read self.old.text line.now)) }
     {
         let name = second_word(line);
@@ -93,7 +110,7 @@ impl Draft {
 
     /// row SCHEMA KEY TEXT
     #[tactic(auto, unfolding(crate::specs::Header::row_read))]
-    pub fn add_row(&mut self, alloc: Global, line: &[u8]) -> Result<(), LineFault>
+    fn add_row(&mut self, alloc: Global, line: &[u8]) -> Result<(), LineFault>
         ensures { Adds result self.new (with_text self.old (row_read self.old.text line.now)) }
     {
         let schema = second_word(line);

@@ -1,8 +1,8 @@
 ghost use Rattle.std.specs.Prelude.{◌≡◌};
 ghost use Rattle.script_reader.specs.Stage.{is_whole, after_rdb, after_cap, after_member, after_list, after_numbered};
-ghost use Rattle.script_reader.specs.Stage.{after_user, after_row, after_line_of_body, stage_after};
+ghost use Rattle.script_reader.specs.Stage.{after_user, after_row, after_header, after_line_of_body, stage_after};
 
-use crate::keyword::Keyword;
+use crate::keyword::{HeaderWord, Keyword};
 
 /// How far a script was read.
 #[derive(Clone, Copy)]
@@ -119,19 +119,29 @@ fn after_line_of_body(stage: Stage) -> Option<Stage>
     }
 }
 
+/// After a line of the header.
+#[tactic(auto, unfolding(crate::specs::Stage::after_header))]
+fn after_header(stage: Stage, word: HeaderWord) -> Option<Stage>
+    ensures { result ≡ after_header stage word }
+{
+    match word {
+        HeaderWord::Rdb => after_rdb(stage),
+        HeaderWord::Cap => after_cap(stage),
+        HeaderWord::Member => after_member(stage),
+        HeaderWord::List => after_list(stage),
+        HeaderWord::NumberedList => after_numbered(stage),
+        HeaderWord::User => after_user(stage),
+        HeaderWord::Row => after_row(stage),
+    }
+}
+
 /// How far a script is after a line with this first word, where it may stand here.
 #[tactic(auto, unfolding(crate::specs::Stage::stage_after))]
 pub fn stage_after(stage: Stage, keyword: Keyword) -> Option<Stage>
     ensures { result ≡ stage_after stage keyword }
 {
     match keyword {
-        Keyword::Rdb => after_rdb(stage),
-        Keyword::Cap => after_cap(stage),
-        Keyword::Member => after_member(stage),
-        Keyword::List => after_list(stage),
-        Keyword::NumberedList => after_numbered(stage),
-        Keyword::User => after_user(stage),
-        Keyword::Row => after_row(stage),
+        Keyword::Header(word) => after_header(stage, word),
         _ => after_line_of_body(stage),
     }
 }
