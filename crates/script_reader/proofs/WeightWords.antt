@@ -8,7 +8,7 @@ use Rattle.std.proofs.lemmas.List.{length-take}
 use Rattle.std.proofs.lemmas.List.Splits.{slice_split_first}
 use Rattle.server_list.specs.Lists.{Listing}
 use Rattle.server_list.specs.declared.list.ServerRow.{ServerRow}
-use Rattle.script_reader.specs.Words.{is_space, words_of}
+use Rattle.script_words.specs.Words.{is_space, words_of}
 use Rattle.script_reader.specs.Weights.{◌>>=◌, weight_added, weights_read}
 
 last_step : (x : ℕ) (xs : List ℕ) (place : ℕ) (b : Bool) → (place ≡ length xs → words_of xs ≡ xs ∷ []) → cond (not b) (1 + place) 0 ≡ suc (length xs) →

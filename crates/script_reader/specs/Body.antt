@@ -6,17 +6,17 @@ use Rattle.gateway_setup.specs.declared.event.Event.{Event}
 use Rattle.gateway_setup.specs.declared.event.Event.TheVariants as event
 use Rattle.script_commands.specs.Commands.{command_bytes}
 use Rattle.script_commands.specs.Start.{start_bytes}
-use Rattle.script_reader.specs.declared.keyword.CommandWord.{CommandWord}
-use Rattle.script_reader.specs.declared.keyword.MoveWord.{MoveWord}
-use Rattle.script_reader.specs.declared.keyword.MoveWord.TheVariants as move
-use Rattle.script_reader.specs.declared.keyword.StepWord.{StepWord}
-use Rattle.script_reader.specs.declared.keyword.StepWord.TheVariants as step
+use Rattle.script_words.specs.declared.keyword.CommandWord.{CommandWord}
+use Rattle.script_words.specs.declared.keyword.MoveWord.{MoveWord}
+use Rattle.script_words.specs.declared.keyword.MoveWord.TheVariants as move
+use Rattle.script_words.specs.declared.keyword.StepWord.{StepWord}
+use Rattle.script_words.specs.declared.keyword.StepWord.TheVariants as step
 use Rattle.script_reader.specs.declared.script.Line.TheVariants as line
 use Rattle.script_reader.specs.declared.script.ScriptWhy.{ScriptWhy}
 use Rattle.script_reader.specs.declared.script.ScriptWhy.TheVariants.{Order, Field}
-use Rattle.script_reader.specs.Number.{number_of, number_within}
-use Rattle.script_reader.specs.Field.{is_name}
-use Rattle.script_reader.specs.Words.{word, word_count}
+use Rattle.script_words.specs.Number.{number_of, number_within}
+use Rattle.script_words.specs.Field.{is_name}
+use Rattle.script_words.specs.Words.{word, word_count}
 use Rattle.script_reader.specs.Weights.{listed_member}
 use Rattle.script_reader.specs.Command.{command_read}
 use Rattle.script_reader.specs.Draft.{DraftText, with_line, goes_on, next_number, chains_after}

@@ -4,11 +4,11 @@ use Rattle.std.specs.Str.{bytes_eq}
 use Rattle.ddm_codepoints.specs.CodePoint.{excsqlimm, excsqlset, opnqry, cntqry, clsqry, rdbcmm, rdbrllbck}
 use Rattle.unit_segments.specs.declared.command.Command.{Command}
 use Rattle.script_commands.specs.Commands.{statement_command, prepare_command, section_command, unit_end_command}
-use Rattle.script_reader.specs.declared.keyword.CommandWord.{CommandWord}
-use Rattle.script_reader.specs.declared.keyword.CommandWord.TheVariants.{Sql, Set, Prepare, Open, Fetch, Close, Commit, RollBack}
-use Rattle.script_reader.specs.Number.{number_within}
-use Rattle.script_reader.specs.Field.{text_read}
-use Rattle.script_reader.specs.Words.{word, behind}
+use Rattle.script_words.specs.declared.keyword.CommandWord.{CommandWord}
+use Rattle.script_words.specs.declared.keyword.CommandWord.TheVariants.{Sql, Set, Prepare, Open, Fetch, Close, Commit, RollBack}
+use Rattle.script_words.specs.Number.{number_within}
+use Rattle.script_words.specs.Field.{text_read}
+use Rattle.script_words.specs.Words.{word, behind}
 use Rattle.script_reader.specs.Weights.{◌>>=◌}
 
 -- sql I TEXT, set I TEXT

@@ -7,8 +7,8 @@ use Rattle.reply_texts.specs.declared.rdb_name.RdbName.{RdbName}
 use Rattle.gateway_setup.specs.Sent.{nothing_sent}
 use Rattle.server_list.specs.Lists.{no_rows}
 use Rattle.script_reader.specs.declared.script.Line.{Line}
-use Rattle.script_reader.specs.declared.stage.Stage.{Stage}
-use Rattle.script_reader.specs.declared.stage.Stage.TheVariants.{Start}
+use Rattle.script_words.specs.declared.stage.Stage.{Stage}
+use Rattle.script_words.specs.declared.stage.Stage.TheVariants.{Start}
 use Rattle.script_reader.specs.ScriptText.{ScriptText}
 
 -- The number of the next command of each application's chain that goes on, None where none does; the applications stand in

@@ -3,14 +3,14 @@ use Rattle.std.specs.Prelude.{ℕ, List, [], ◌∷◌, ◌++◌, ◌+◌, ◌==
 use Rattle.reply_texts.specs.Name.{is_rdb_name}
 use Rattle.server_list.specs.Lists.{no_rows, with_row}
 use Rattle.gateway_setup.specs.Sent.{is_free, with_sent}
-use Rattle.script_reader.specs.Number.{number_within}
-use Rattle.script_reader.specs.Field.{is_name}
-use Rattle.script_reader.specs.Words.{word, behind, words_of}
+use Rattle.script_words.specs.Number.{number_within}
+use Rattle.script_words.specs.Field.{is_name}
+use Rattle.script_words.specs.Words.{word, behind, words_of}
 use Rattle.script_reader.specs.Names.{is_user, is_row}
 use Rattle.script_reader.specs.declared.script.ScriptWhy.{ScriptWhy}
 use Rattle.script_reader.specs.declared.script.ScriptWhy.TheVariants.{Field}
-use Rattle.script_reader.specs.declared.keyword.HeaderWord.{HeaderWord}
-use Rattle.script_reader.specs.declared.keyword.HeaderWord.TheVariants as header
+use Rattle.script_words.specs.declared.keyword.HeaderWord.{HeaderWord}
+use Rattle.script_words.specs.declared.keyword.HeaderWord.TheVariants as header
 use Rattle.script_reader.specs.ScriptText.{ScriptText}
 use Rattle.script_reader.specs.Draft.{DraftText}
 use Rattle.script_reader.specs.Weights.{◌>>=◌, listed_member, weights_read, sent_by_all}

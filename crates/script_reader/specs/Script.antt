@@ -3,15 +3,15 @@ use Rattle.std.specs.Prelude.{ℕ, List, [], ◌∷◌, ◌+◌, nat_lt, ◌&&�
 use Rattle.std.specs.List.{list_all}
 use Rattle.hex_lines.specs.Lines.{lines_of, is_skipped, most_bytes}
 use Rattle.reply_texts.specs.Name.{is_rdb_name}
-use Rattle.script_reader.specs.declared.keyword.Keyword.{Keyword}
-use Rattle.script_reader.specs.declared.keyword.Keyword.TheVariants as keyword
+use Rattle.script_words.specs.declared.keyword.Keyword.{Keyword}
+use Rattle.script_words.specs.declared.keyword.Keyword.TheVariants as keyword
 use Rattle.script_reader.specs.declared.script.ScriptWhy.{ScriptWhy}
 use Rattle.script_reader.specs.declared.script.ScriptWhy.TheVariants.{Word, Order, Field, Long}
-use Rattle.script_reader.specs.declared.stage.Stage.{Stage}
-use Rattle.script_reader.specs.Field.{is_printable}
-use Rattle.script_reader.specs.Words.{word, word_count}
-use Rattle.script_reader.specs.Keyword.{keyword_of, fits_count}
-use Rattle.script_reader.specs.Stage.{stage_after, is_whole}
+use Rattle.script_words.specs.declared.stage.Stage.{Stage}
+use Rattle.script_words.specs.Field.{is_printable}
+use Rattle.script_words.specs.Words.{word, word_count}
+use Rattle.script_words.specs.Keyword.{keyword_of, fits_count}
+use Rattle.script_words.specs.Stage.{stage_after, is_whole}
 use Rattle.script_reader.specs.ScriptText.{ScriptText}
 use Rattle.script_reader.specs.Draft.{DraftText, start, some_goes_on}
 use Rattle.script_reader.specs.Header.{with_text, header_read}

@@ -4,7 +4,7 @@ use Rattle.std.specs.List.{before_first, after_first}
 use Rattle.server_list.specs.declared.list.ServerRow.{ServerRow}
 use Rattle.server_list.specs.Lists.{Listing, is_listed, is_listable, with_row}
 use Rattle.gateway_setup.specs.Sent.{with_sent}
-use Rattle.script_reader.specs.Number.{number_within}
+use Rattle.script_words.specs.Number.{number_within}
 
 infixl 10 ◌>>=◌
 abbrev pub ◌>>=◌ : {A B : Type 0} → Option A → (A → Option B) → Option B

@@ -8,16 +8,13 @@ ghost use Rattle.script_reader.specs.Draft.{with_line, goes_on, next_number, cha
 use crate::command::read_command;
 use crate::draft::Draft;
 use crate::fault::LineFault;
-use crate::field::is_name;
-use crate::keyword::{CommandWord, MoveWord, StepWord};
-use crate::number::{read_number, read_within};
 use crate::script::{Line, ScriptWhy};
 use crate::weights::read_member;
-use crate::words::{count_words, fourth_word, second_word, third_word};
 use gateway_setup::Event;
 use hex_lines::read_hex;
 use link_ends::Octets;
 use script_commands::{start_chains, write_command};
+use script_words::{CommandWord, MoveWord, StepWord, count_words, fourth_word, is_name, read_number, read_within, second_word, third_word};
 use server_list::ServerList;
 use std::alloc::Global;
 

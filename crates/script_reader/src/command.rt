@@ -4,12 +4,9 @@ ghost use Rattle.script_reader.specs.Answers.{Gives};
 ghost use Rattle.script_reader.specs.Command.{statement_read, asks_hold, without_hold, prepared_read, prepare_read, section_of, section_read, command_read};
 
 use crate::fault::LineFault;
-use crate::field::read_text;
-use crate::keyword::CommandWord;
-use crate::number::read_within;
-use crate::words::{behind_second, behind_third, third_word};
 use ddm_codepoints::code_point::{CLSQRY, CNTQRY, EXCSQLIMM, EXCSQLSET, OPNQRY, RDBCMM, RDBRLLBCK};
 use script_commands::{prepare_command, section_command, statement_command, unit_end_command};
+use script_words::{CommandWord, behind_second, behind_third, read_text, read_within, third_word};
 use std::alloc::Global;
 use unit_segments::Command;
 

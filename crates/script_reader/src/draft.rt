@@ -5,16 +5,13 @@ ghost use Rattle.script_reader.specs.Script.{words_read, fields_read, words_adde
 
 use crate::body::{read_act, read_down, read_drop, read_move, read_step, read_up};
 use crate::fault::LineFault;
-use crate::field::is_printable;
-use crate::keyword::{Keyword, fits_count, read_keyword};
 use crate::rows::Rows;
 use crate::script::{Line, Script, ScriptFault, ScriptWhy};
-use crate::stage::{Stage, is_whole, stage_after};
 use crate::users::Users;
-use crate::words::{count_words, first_word};
 use gateway_setup::{SentLists, Setup};
 use hex_lines::is_skipped;
 use reply_texts::RdbName;
+use script_words::{Keyword, Stage, count_words, first_word, fits_count, is_printable, is_whole, read_keyword, stage_after};
 use server_list::ServerList;
 use std::alloc::Global;
 use std::marker::Model;

@@ -4,12 +4,9 @@ ghost use Rattle.script_reader.specs.Header.{with_text, rdb_read, cap_read, memb
 
 use crate::draft::Draft;
 use crate::fault::LineFault;
-use crate::field::is_name;
-use crate::keyword::HeaderWord;
-use crate::number::read_within;
 use crate::weights::{read_member, read_weights, send_by_all};
-use crate::words::{behind_first, behind_third, fourth_word, second_word, third_word};
 use reply_texts::RdbName;
+use script_words::{HeaderWord, behind_first, behind_third, fourth_word, is_name, read_within, second_word, third_word};
 use server_list::ServerRow;
 use std::alloc::Global;
 

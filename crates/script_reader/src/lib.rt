@@ -5,16 +5,11 @@ mod body;
 mod command;
 mod draft;
 mod fault;
-mod field;
 mod header;
-mod keyword;
-mod number;
 mod rows;
 mod script;
-mod stage;
 mod users;
 mod weights;
-mod words;
 
 pub use script::{Line, Row, Script, ScriptFault, ScriptWhy, User, read_script};
 

@@ -2,12 +2,11 @@ ghost use Rattle.std.specs.Prelude.{◌≡◌};
 ghost use Rattle.std.specs.List.{before_first, after_first};
 ghost use Rattle.server_list.specs.Lists.{no_rows};
 ghost use Rattle.script_reader.specs.Weights.{listed_member, weight_read, row_added, weight_added, weights_read, sent_by_all};
-ghost use Rattle.script_reader.specs.Words.{words_of};
+ghost use Rattle.script_words.specs.Words.{words_of};
 
-use crate::number::read_within;
-use crate::words::SPACE;
 use gateway_setup::SentLists;
 use hex_lines::cut_at;
+use script_words::{SPACE, read_within};
 use server_list::{ServerList, ServerRow};
 
 const EQUALS: u8 = b'=';

@@ -1,6 +1,6 @@
 use Rattle.std.proofs.Common.{◌≡◌, length}
 use Rattle.server_list.specs.Lists.{no_rows}
-use Rattle.script_reader.specs.Words.{words_of}
+use Rattle.script_words.specs.Words.{words_of}
 use Rattle.script_reader.specs.Weights.{weights_read}
 use Rattle.script_reader.proofs.weights.read_weights.Given as goal
 

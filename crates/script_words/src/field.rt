@@ -3,7 +3,7 @@ ghost use Rattle.std.specs.Option.{option_copied};
 ghost use Rattle.std.specs.List.{list_all};
 ghost use Rattle.reply_texts.specs.Name.{is_name_character};
 ghost use Rattle.reply_texts.specs.Text.{is_text};
-ghost use Rattle.script_reader.specs.Field.{is_name, is_printable, text_read};
+ghost use Rattle.script_words.specs.Field.{is_name, is_printable, text_read};
 
 use ddm_codepoints::ebcdic_of;
 

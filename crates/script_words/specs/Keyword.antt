@@ -2,16 +2,16 @@
 use Rattle.std.specs.Prelude.{ℕ, List, ◌==◌, ◌||◌, nat_le, Bool, true, false, if◌then◌else◌, length, take, drop, ◌-◌, Option, Some, None, option_map, codes}
 use Rattle.std.specs.Str.{bytes_eq}
 use Rattle.std.specs.Option.{option_or}
-use Rattle.script_reader.specs.declared.keyword.Keyword.{Keyword}
-use Rattle.script_reader.specs.declared.keyword.Keyword.TheVariants as keyword
-use Rattle.script_reader.specs.declared.keyword.HeaderWord.{HeaderWord}
-use Rattle.script_reader.specs.declared.keyword.HeaderWord.TheVariants as header
-use Rattle.script_reader.specs.declared.keyword.CommandWord.{CommandWord}
-use Rattle.script_reader.specs.declared.keyword.CommandWord.TheVariants as command
-use Rattle.script_reader.specs.declared.keyword.MoveWord.{MoveWord}
-use Rattle.script_reader.specs.declared.keyword.MoveWord.TheVariants as move
-use Rattle.script_reader.specs.declared.keyword.StepWord.{StepWord}
-use Rattle.script_reader.specs.declared.keyword.StepWord.TheVariants as step
+use Rattle.script_words.specs.declared.keyword.Keyword.{Keyword}
+use Rattle.script_words.specs.declared.keyword.Keyword.TheVariants as keyword
+use Rattle.script_words.specs.declared.keyword.HeaderWord.{HeaderWord}
+use Rattle.script_words.specs.declared.keyword.HeaderWord.TheVariants as header
+use Rattle.script_words.specs.declared.keyword.CommandWord.{CommandWord}
+use Rattle.script_words.specs.declared.keyword.CommandWord.TheVariants as command
+use Rattle.script_words.specs.declared.keyword.MoveWord.{MoveWord}
+use Rattle.script_words.specs.declared.keyword.MoveWord.TheVariants as move
+use Rattle.script_words.specs.declared.keyword.StepWord.{StepWord}
+use Rattle.script_words.specs.declared.keyword.StepWord.TheVariants as step
 
 -- the lines of the header
 unfoldable pub header_word : List ℕ → Option HeaderWord

@@ -1,5 +1,5 @@
 ghost use Rattle.std.specs.Prelude.{◌≡◌};
-ghost use Rattle.script_reader.specs.Number.{digit_onto, digits_onto, number_of, number_within};
+ghost use Rattle.script_words.specs.Number.{digit_onto, digits_onto, number_of, number_within};
 
 /// The number with one digit more, where that is a digit and the number stays below 2 ^ 64.
 fn digit_onto(number: u64, digit: u8) -> Option<u64>

@@ -1,5 +1,5 @@
 ghost use Rattle.std.specs.Prelude.{◌≡◌, count_by};
-ghost use Rattle.script_reader.specs.Words.{is_space, behind, word, word_count};
+ghost use Rattle.script_words.specs.Words.{is_space, behind, word, word_count};
 
 use hex_lines::cut_at;
 

@@ -1,11 +1,11 @@
 -- The order of the lines of a script. It is this project's choice.
 use Rattle.std.specs.Prelude.{Bool, true, false, if◌then◌else◌, Option, Some, None}
-use Rattle.script_reader.specs.declared.keyword.Keyword.{Keyword}
-use Rattle.script_reader.specs.declared.keyword.Keyword.TheVariants as keyword
-use Rattle.script_reader.specs.declared.keyword.HeaderWord.{HeaderWord}
-use Rattle.script_reader.specs.declared.keyword.HeaderWord.TheVariants as header
-use Rattle.script_reader.specs.declared.stage.Stage.{Stage}
-use Rattle.script_reader.specs.declared.stage.Stage.TheVariants.{Start, AfterRdb, AfterCap, Members, Listed, Numbered, Users, Rows, Body}
+use Rattle.script_words.specs.declared.keyword.Keyword.{Keyword}
+use Rattle.script_words.specs.declared.keyword.Keyword.TheVariants as keyword
+use Rattle.script_words.specs.declared.keyword.HeaderWord.{HeaderWord}
+use Rattle.script_words.specs.declared.keyword.HeaderWord.TheVariants as header
+use Rattle.script_words.specs.declared.stage.Stage.{Stage}
+use Rattle.script_words.specs.declared.stage.Stage.TheVariants.{Start, AfterRdb, AfterCap, Members, Listed, Numbered, Users, Rows, Body}
 
 -- the header has a name, a cap and a member
 abbrev pub is_whole : Stage → Bool

@@ -1,7 +1,7 @@
 ghost use Rattle.std.specs.Prelude.{◌≡◌};
-ghost use Rattle.script_reader.specs.Keyword.{header_word, command_word, move_word, step_word, lone_word};
-ghost use Rattle.script_reader.specs.Keyword.{header_keyword, event_word, chain_word, keyword_by_name, keyword_of};
-ghost use Rattle.script_reader.specs.Keyword.{fits_header, fits_command, fits_count};
+ghost use Rattle.script_words.specs.Keyword.{header_word, command_word, move_word, step_word, lone_word};
+ghost use Rattle.script_words.specs.Keyword.{header_keyword, event_word, chain_word, keyword_by_name, keyword_of};
+ghost use Rattle.script_words.specs.Keyword.{fits_header, fits_command, fits_count};
 
 /// What stands at the end of a command whose chain goes on.
 const PLUS: &[u8] = b"+";

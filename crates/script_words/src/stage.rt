@@ -1,6 +1,6 @@
 ghost use Rattle.std.specs.Prelude.{◌≡◌};
-ghost use Rattle.script_reader.specs.Stage.{is_whole, after_rdb, after_cap, after_member, after_list, after_numbered};
-ghost use Rattle.script_reader.specs.Stage.{after_user, after_row, after_header, after_line_of_body, stage_after};
+ghost use Rattle.script_words.specs.Stage.{is_whole, after_rdb, after_cap, after_member, after_list, after_numbered};
+ghost use Rattle.script_words.specs.Stage.{after_user, after_row, after_header, after_line_of_body, stage_after};
 
 use crate::keyword::{HeaderWord, Keyword};
 
