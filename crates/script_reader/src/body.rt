@@ -1,4 +1,4 @@
-ghost use Rattle.std.specs.Prelude.{◌≡◌, ◌≤◌, length, ok_or, Ok};
+ghost use Rattle.std.specs.Prelude.{◌≡◌, ◌≤◌, length, ok_or, Ok, IfSome};
 ghost use Rattle.script_reader.specs.declared.script.ScriptWhy.TheVariants.{Field};
 ghost use Rattle.script_reader.specs.Answers.{Adds, Gives};
 ghost use Rattle.script_reader.specs.Body.{app_of, count_of, idle_app, bytes_read, app_read, start_read, command_added, settle_read};
@@ -7,7 +7,7 @@ ghost use Rattle.script_reader.specs.Draft.{with_line, goes_on, next_number, cha
 
 use crate::command::read_command;
 use crate::draft::Draft;
-use crate::fault::LineFault;
+use crate::fault::{FIELD, LineFault};
 use crate::script::{Line, ScriptWhy};
 use crate::weights::read_member;
 use gateway_setup::Event;
@@ -20,7 +20,9 @@ use std::alloc::Global;
 
 /// The application that the second word names.
 fn read_app(line: &[u8]) -> Option<u32>
-    ensures { result ≡ app_of line.now }
+    ensures app { result ≡ app_of line.now }
+    ensures least { IfSome result (λ app. 1 ≤ app) }
+    ensures most { IfSome result (λ app. app ≤ 64) }
 {
     read_within(second_word(line), 1, 64)
 }
@@ -40,7 +42,7 @@ fn read_bytes(alloc: Global, line: &[u8]) -> Result<Octets, LineFault>
     if count_words(line) == 2 {
         return Ok(Octets::new(alloc));
     }
-    read_hex(alloc, third_word(line))?.ok_or(LineFault::FIELD)
+    read_hex(alloc, third_word(line))?.ok_or(FIELD)
 }
 
 fn moved(kind: MoveWord, app: u32, n: u32) -> Event
@@ -154,7 +156,7 @@ impl Draft {
     fn read_idle(&self, line: &[u8]) -> Result<u32, LineFault>
         ensures { Gives result (idle_app self.now line.now) }
     {
-        let app = read_app(line).ok_or(LineFault::FIELD)?;
+        let app = read_app(line).ok_or(FIELD)?;
         if self.goes_on(app) {
             return Err(LineFault::Refused(ScriptWhy::Order));
         }
@@ -180,7 +182,7 @@ impl Draft {
         let user = third_word(line);
         let password = fourth_word(line);
         if !is_name(user) || !is_name(password) {
-            return Err(LineFault::FIELD);
+            return Err(FIELD);
         }
         let bytes = start_chains(alloc, self.name(), user, password)?;
         self.add_to_body(Line::Bytes { app, bytes })
@@ -198,7 +200,7 @@ impl Draft {
         requires { length line.now ≤ 16777216 }
         ensures { Adds result self.new (ok_or (command_added self.old word more line.now) Field) }
     {
-        let app = read_app(line).ok_or(LineFault::FIELD)?;
+        let app = read_app(line).ok_or(FIELD)?;
         let number = self.next_number(app);
         let command = read_command(alloc, word, number, self.name(), line)?;
         let bytes = write_command(alloc, &command, more)?;
@@ -215,7 +217,7 @@ impl Draft {
     pub fn add_event(&mut self, event: Option<Event>) -> Result<(), LineFault>
         ensures { Adds result self.new (with_event self.old event) }
     {
-        let event = event.ok_or(LineFault::FIELD)?;
+        let event = event.ok_or(FIELD)?;
         self.add_to_body(Line::Event(event))
     }
 
@@ -224,7 +226,7 @@ impl Draft {
     pub fn add_settle(&mut self, line: &[u8]) -> Result<(), LineFault>
         ensures { Adds result self.new (ok_or (settle_read self.old line.now) Field) }
     {
-        let budget = read_within(second_word(line), 1, 1_000_000).ok_or(LineFault::FIELD)?;
+        let budget = read_within(second_word(line), 1, 1_000_000).ok_or(FIELD)?;
         self.add_to_body(Line::Settle(budget))
     }
 }

@@ -3,7 +3,7 @@ ghost use Rattle.script_reader.specs.declared.script.ScriptWhy.TheVariants.{Fiel
 ghost use Rattle.script_reader.specs.Answers.{Gives};
 ghost use Rattle.script_reader.specs.Command.{statement_read, asks_hold, without_hold, prepared_read, prepare_read, section_of, section_read, command_read};
 
-use crate::fault::LineFault;
+use crate::fault::{FIELD, LineFault};
 use ddm_codepoints::code_point::{CLSQRY, CNTQRY, EXCSQLIMM, EXCSQLSET, OPNQRY, RDBCMM, RDBRLLBCK};
 use script_commands::{prepare_command, section_command, statement_command, unit_end_command};
 use script_words::{CommandWord, behind_second, behind_third, read_text, read_within, third_word};
@@ -19,7 +19,7 @@ fn read_statement(alloc: Global, code: u16, corr: u16, line: &[u8]) -> Result<Co
     requires { length line.now ≤ 16777216 }
     ensures { Gives result (ok_or (statement_read code corr line.now) Field) }
 {
-    let text = read_text(behind_second(line)).ok_or(LineFault::FIELD)?;
+    let text = read_text(behind_second(line)).ok_or(FIELD)?;
     Ok(statement_command(alloc, code, corr, text)?)
 }
 
@@ -48,7 +48,7 @@ fn read_prepared(
     ensures { Gives result (ok_or (prepared_read corr rdb.now section text.now) Field) }
 {
     let (hold, statement) = cut_hold(text);
-    let text = read_text(statement).ok_or(LineFault::FIELD)?;
+    let text = read_text(statement).ok_or(FIELD)?;
     Ok(prepare_command(alloc, corr, rdb, section, hold, text)?)
 }
 
@@ -67,7 +67,7 @@ fn read_prepare(alloc: Global, corr: u16, rdb: &[u8], line: &[u8]) -> Result<Com
     requires line { length line.now ≤ 16777216 }
     ensures { Gives result (ok_or (prepare_read corr rdb.now line.now) Field) }
 {
-    let section = read_section(line).ok_or(LineFault::FIELD)?;
+    let section = read_section(line).ok_or(FIELD)?;
     read_prepared(alloc, corr, rdb, section, behind_third(line))
 }
 
@@ -83,7 +83,7 @@ fn read_of_section(
     requires { length rdb.now ≤ 18 }
     ensures { Gives result (ok_or (section_read code corr rdb.now line.now) Field) }
 {
-    let section = read_section(line).ok_or(LineFault::FIELD)?;
+    let section = read_section(line).ok_or(FIELD)?;
     Ok(section_command(alloc, code, corr, rdb, section)?)
 }
 

@@ -13,10 +13,10 @@ pub enum LineFault {
     NoMemory,
 }
 
-impl LineFault {
-    /// A field isn't as the line wants it.
-    pub const FIELD: LineFault = LineFault::Refused(ScriptWhy::Field);
+/// A field isn't as the line wants it.
+pub const FIELD: LineFault = LineFault::Refused(ScriptWhy::Field);
 
+impl LineFault {
     /// The same, of the line of this number.
     pub fn at(self, line: u64) -> ScriptFault
         ensures { result ≡ fault_at line self }

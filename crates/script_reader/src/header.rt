@@ -3,7 +3,7 @@ ghost use Rattle.script_reader.specs.Answers.{Adds};
 ghost use Rattle.script_reader.specs.Header.{with_text, rdb_read, cap_read, member_read, list_read, numbered_read, user_read, row_read, header_read};
 
 use crate::draft::Draft;
-use crate::fault::LineFault;
+use crate::fault::{FIELD, LineFault};
 use crate::weights::{read_member, read_weights, send_by_all};
 use reply_texts::RdbName;
 use script_words::{HeaderWord, behind_first, behind_third, fourth_word, is_name, read_within, second_word, third_word};
@@ -32,7 +32,7 @@ impl Draft {
     fn add_rdb(&mut self, line: &[u8]) -> Result<(), LineFault>
         ensures { Adds result self.new (with_text self.old (rdb_read self.old.text line.now)) }
     {
-        let name = RdbName::of(second_word(line)).ok_or(LineFault::FIELD)?;
+        let name = RdbName::of(second_word(line)).ok_or(FIELD)?;
         self.rdb = Some(name);
         Ok(())
     }
@@ -42,7 +42,7 @@ impl Draft {
     fn add_cap(&mut self, line: &[u8]) -> Result<(), LineFault>
         ensures { Adds result self.new (with_text self.old (cap_read self.old.text line.now)) }
     {
-        self.cap = read_within(second_word(line), 1, 32).ok_or(LineFault::FIELD)?;
+        self.cap = read_within(second_word(line), 1, 32).ok_or(FIELD)?;
         Ok(())
     }
 
@@ -51,10 +51,10 @@ impl Draft {
     fn add_member(&mut self, line: &[u8]) -> Result<(), LineFault>
         ensures { Adds result self.new (with_text self.old (member_read self.old.text line.now)) }
     {
-        let member = read_within(second_word(line), 1, 32).ok_or(LineFault::FIELD)?;
-        let weight = read_within(third_word(line), 0, 65_535).ok_or(LineFault::FIELD)?;
+        let member = read_within(second_word(line), 1, 32).ok_or(FIELD)?;
+        let weight = read_within(third_word(line), 0, 65_535).ok_or(FIELD)?;
         if member as usize != self.list.len() + 1 {
-            return Err(LineFault::FIELD);
+            return Err(FIELD);
         }
         self.list.push(ServerRow {
             member,
@@ -68,7 +68,7 @@ impl Draft {
     fn add_list(&mut self, line: &[u8]) -> Result<(), LineFault>
         ensures { Adds result self.new (with_text self.old (list_read self.old.text line.now)) }
     {
-        let list = read_weights(&self.list, 0, behind_first(line)).ok_or(LineFault::FIELD)?;
+        let list = read_weights(&self.list, 0, behind_first(line)).ok_or(FIELD)?;
         send_by_all(&mut self.sent_lists, list, &self.list);
         Ok(())
     }
@@ -78,13 +78,13 @@ impl Draft {
     fn add_numbered(&mut self, line: &[u8]) -> Result<(), LineFault>
         ensures { Adds result self.new (with_text self.old (numbered_read self.old.text line.now)) }
     {
-        let member = read_member(&self.list, second_word(line)).ok_or(LineFault::FIELD)?;
-        let number = read_within(third_word(line), 1, 4_294_967_295).ok_or(LineFault::FIELD)?;
-        let list = read_weights(&self.list, number, behind_third(line)).ok_or(LineFault::FIELD)?;
+        let member = read_member(&self.list, second_word(line)).ok_or(FIELD)?;
+        let number = read_within(third_word(line), 1, 4_294_967_295).ok_or(FIELD)?;
+        let list = read_weights(&self.list, number, behind_third(line)).ok_or(FIELD)?;
         if self.sent_lists.set(member, list) {
             Ok(())
         } else {
-            Err(LineFault::FIELD)
+            Err(FIELD)
         }
     }
 
@@ -96,12 +96,12 @@ impl Draft {
         let name = second_word(line);
         let password = third_word(line);
         if !is_name(name) || !is_name(password) {
-            return Err(LineFault::FIELD);
+            return Err(FIELD);
         }
         if self.users.add(alloc, name, password)? {
             Ok(())
         } else {
-            Err(LineFault::FIELD)
+            Err(FIELD)
         }
     }
 
@@ -112,14 +112,14 @@ impl Draft {
     {
         let schema = second_word(line);
         let text = fourth_word(line);
-        let key = read_within(third_word(line), 0, 999_999_999).ok_or(LineFault::FIELD)?;
+        let key = read_within(third_word(line), 0, 999_999_999).ok_or(FIELD)?;
         if !is_name(schema) || !is_name(text) {
-            return Err(LineFault::FIELD);
+            return Err(FIELD);
         }
         if self.rows.add(alloc, schema, key, text)? {
             Ok(())
         } else {
-            Err(LineFault::FIELD)
+            Err(FIELD)
         }
     }
 }

@@ -1,4 +1,4 @@
-ghost use Rattle.std.specs.Prelude.{◌≡◌};
+ghost use Rattle.std.specs.Prelude.{◌≡◌, ◌≤◌, IfSome};
 ghost use Rattle.script_words.specs.Number.{digit_onto, digits_onto, number_of, number_within};
 
 /// The number with one digit more, where that is a digit and the number stays below 2 ^ 64.
@@ -36,7 +36,9 @@ pub fn read_number(word: &[u8]) -> Option<u64>
 
 /// Such a number from `least` to `most`.
 pub fn read_within(word: &[u8], least: u32, most: u32) -> Option<u32>
-    ensures { result ≡ number_within least most word.now }
+    ensures number { result ≡ number_within least most word.now }
+    ensures least { IfSome result (λ number. least ≤ number) }
+    ensures most { IfSome result (λ number. number ≤ most) }
 {
     let number = read_number(word)?;
     if u64::from(least) <= number && number <= u64::from(most) {
