@@ -26,15 +26,18 @@ secchk_object rdb user word =
     ++ (canonical_object usrid (codes_in Sql370 user)
     ++ (canonical_object password (codes_in Sql370 word) ++ canonical_object rdbnam (padded_name rdb))))
 
+-- the manager of the access, and the product
+abbrev pub product_parameters : List ℕ
+product_parameters = canonical_object rdbacccl (big_bytes 2 sqlam) ++ canonical_object prdid (codes_in Sql370 (codes "SCR01010"))
+
 -- ACCRDB: the manager of the access, the product, the type definition, the database and the CCSID of single bytes
 unfoldable pub accrdb_object : List ℕ → List ℕ
 accrdb_object rdb =
     canonical_object accrdb
-    (canonical_object rdbacccl (big_bytes 2 sqlam)
-    ++ (canonical_object prdid (codes_in Sql370 (codes "SCR01010"))
+    (product_parameters
     ++ (canonical_object typdefnam (codes_in Sql370 (codes "QTDSQL370"))
     ++ (canonical_object rdbnam (padded_name rdb)
-    ++ canonical_object typdefovr (canonical_object ccsidsbc (big_bytes 2 us_english))))))
+    ++ canonical_object typdefovr (canonical_object ccsidsbc (big_bytes 2 us_english)))))
 
 -- both chains, each numbered from 1
 abbrev pub start_bytes : List ℕ → List ℕ → List ℕ → List ℕ

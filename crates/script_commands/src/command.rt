@@ -2,7 +2,7 @@ ghost use Rattle.std.specs.Prelude.{◌≡◌, ◌≤◌, false, length, IfOk};
 ghost use Rattle.script_commands.specs.Objects.{held_object, sqlstt_object};
 ghost use Rattle.script_commands.specs.Commands.{command, statement_command, prepared_objects, prepare_command, section_command, unit_end_command};
 
-use crate::object::{object, section_object, text_object};
+use crate::object::{object, object_of_section, text_object};
 use ddm_codepoints::code_point::{PRPSQLSTT, SQLATTR, SQLSTT};
 use link_ends::{NoMemory, Octets, OctetsList};
 use std::alloc::Global;
@@ -82,8 +82,7 @@ pub fn prepare_command(
     ensures { IfOk result (λ command. command ≡ prepare_command corr rdb.now section hold text.now) }
 {
     let objects = prepared_objects(alloc, hold, text)?;
-    let parameters = section_object(alloc, rdb, section)?;
-    let body = object(alloc, PRPSQLSTT, parameters.as_slice())?;
+    let body = object_of_section(alloc, PRPSQLSTT, rdb, section)?;
     Ok(command(corr, PRPSQLSTT, body, objects))
 }
 
@@ -98,8 +97,7 @@ pub fn section_command(
     requires { length rdb.now ≤ 18 }
     ensures { IfOk result (λ command. command ≡ section_command code corr rdb.now section) }
 {
-    let parameters = section_object(alloc, rdb, section)?;
-    let body = object(alloc, code, parameters.as_slice())?;
+    let body = object_of_section(alloc, code, rdb, section)?;
     Ok(command(corr, code, body, OctetsList::new(alloc)))
 }
 

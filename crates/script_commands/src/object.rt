@@ -1,4 +1,4 @@
-ghost use Rattle.std.specs.Prelude.{◌≡◌, ◌+◌, ◌<◌, ◌≤◌, ◌∷◌, length, IfOk, OnOk};
+ghost use Rattle.std.specs.Prelude.{◌≡◌, ◌+◌, ◌<◌, ◌≤◌, ◌∷◌, length, vec_len, IfOk, OnOk};
 ghost use Rattle.byteorder.specs.Endian.{big_bytes};
 ghost use Rattle.ddm_objects.specs.Objects.{canonical_object};
 ghost use Rattle.ddm_objects.specs.Builder.{building_size, after_put};
@@ -16,9 +16,6 @@ use std::alloc::Global;
 
 /// What stands for a text that is absent. DRDA, volume 3, SQLSTT.
 const ABSENT: u8 = 0xFF;
-
-/// How many bytes the data of PKGNAMCSN have: three names, eight bytes of token and two of section.
-const SECTION: usize = 64;
 
 /// An object with these data.
 pub(crate) fn object(alloc: Global, code: u16, bytes: &[u8]) -> Result<Octets, NoMemory>
@@ -41,6 +38,25 @@ pub(crate) fn put_object(builder: &mut Builder, code: u16, bytes: &[u8]) -> Resu
 {
     builder.begin(code)?;
     builder.put(bytes)?;
+    builder.end()?;
+    Ok(())
+}
+
+/// Writes an object that has one object alone within the innermost one that is begun.
+pub(crate) fn put_outer(
+    builder: &mut Builder,
+    outer: u16,
+    code: u16,
+    bytes: &[u8],
+) -> Result<(), NoMemory>
+    requires begun { 0 < length builder.old.begun }
+    requires depth { length builder.old.begun < 7 }
+    requires room { building_size builder.old + (length bytes.now + 16) ≤ 33554432 }
+    requires short { length bytes.now ≤ 1000 }
+    ensures { OnOk result (builder.new ≡ after_put builder.old (canonical_object outer (canonical_object code bytes.now))) }
+{
+    builder.begin(outer)?;
+    put_object(builder, code, bytes)?;
     builder.end()?;
     Ok(())
 }
@@ -79,23 +95,34 @@ pub(crate) fn text_object(alloc: Global, code: u16, text: &[u8]) -> Result<Octet
 }
 
 /// The data of PKGNAMCSN. DDM, volume 3, PKGNAMCSN.
-fn section_data(rdb: &[u8], section: u16) -> [u8; 64]
+fn section_data(alloc: Global, rdb: &[u8], section: u16) -> Result<Vec<u8>, NoMemory>
     requires { length rdb.now ≤ 18 }
-    ensures { result ≡ section_data rdb.now section }
+    ensures bytes { IfOk result (λ bytes. bytes.items ≡ section_data rdb.now section) }
+    ensures size { IfOk result (λ bytes. vec_len bytes ≡ 64) }
 {
-    let mut data = [1; SECTION];
-    data[..18].copy_from_slice(&padded_name(rdb));
-    data[18..36].copy_from_slice(&padded_name(b"NULLID"));
-    data[36..54].copy_from_slice(&padded_name(b"SCRIPT"));
-    BigEndian::write_u16(&mut data[62..], section);
-    data
+    let mut bytes = Vec::from_slice(alloc, &padded_name(rdb))?;
+    bytes.extend_from_slice(&padded_name(b"NULLID"))?;
+    bytes.extend_from_slice(&padded_name(b"SCRIPT"))?;
+    bytes.extend_from_slice(&[1; 8])?;
+    bytes.extend_from_slice(&section.to_be_bytes())?;
+    Ok(bytes)
 }
 
-/// PKGNAMCSN of a section. DDM, volume 3, PKGNAMCSN.
+/// An object that has PKGNAMCSN of a section alone. DDM, volume 3, PKGNAMCSN.
 #[tactic(auto, unfolding(crate::specs::Objects::section_object))]
-pub(crate) fn section_object(alloc: Global, rdb: &[u8], section: u16) -> Result<Octets, NoMemory>
+pub(crate) fn object_of_section(
+    alloc: Global,
+    code: u16,
+    rdb: &[u8],
+    section: u16,
+) -> Result<Octets, NoMemory>
     requires { length rdb.now ≤ 18 }
-    ensures { IfOk result (λ object. object ≡ section_object rdb.now section) }
+    ensures { IfOk result (λ object. object ≡ canonical_object code (section_object rdb.now section)) }
 {
-    object(alloc, PKGNAMCSN, &section_data(rdb, section))
+    let bytes = section_data(alloc, rdb, section)?;
+    let mut builder = Builder::new(alloc);
+    builder.begin(code)?;
+    put_object(&mut builder, PKGNAMCSN, bytes.as_slice())?;
+    builder.end()?;
+    Ok(builder.finish())
 }

@@ -1,9 +1,10 @@
-ghost use Rattle.std.specs.Prelude.{◌≡◌, ◌≤◌, ◌++◌, length, IfOk, OnOk};
+ghost use Rattle.std.specs.Prelude.{◌≡◌, ◌≤◌, ◌<◌, ◌++◌, length, IfOk, OnOk};
+ghost use Rattle.ddm_objects.specs.Builder.{building_size, after_put};
 ghost use Rattle.dss_frame.specs.Dss.{canonical};
 ghost use Rattle.access_handshake.specs.Access.{request, hello_object};
-ghost use Rattle.script_commands.specs.Start.{secchk_object, accrdb_object, start_bytes};
+ghost use Rattle.script_commands.specs.Start.{secchk_object, product_parameters, accrdb_object, start_bytes};
 
-use crate::object::{codes_of, put_object};
+use crate::object::{codes_of, put_object, put_outer};
 use access_handshake::{accsec_command, hello};
 use ddm_codepoints::code_point::{
     ACCRDB, CCSIDSBC, PASSWORD, PRDID, RDBACCCL, RDBNAM, SECCHK, SECMEC, SQLAM, TYPDEFNAM,
@@ -18,6 +19,12 @@ use std::alloc::Global;
 
 /// How many bytes the header of a DSS of one segment has.
 const HEADER: usize = 6;
+
+/// The product that an application of a script says it is.
+const PRODUCT: &[u8] = b"SCR01010";
+
+/// The type definition whose numbers have the high byte first and whose characters are EBCDIC. DDM, volume 3, TYPDEFNAM.
+const TYPDEF: &[u8] = b"QTDSQL370";
 
 /// CCSID 37.
 const US_ENGLISH: u16 = 37;
@@ -58,6 +65,17 @@ fn secchk_object(
     Ok(builder.finish())
 }
 
+/// The manager of the access, and the product. DDM, volume 3, RDBACCCL, PRDID.
+fn put_product(alloc: Global, builder: &mut Builder) -> Result<(), NoMemory>
+    requires begun { 0 < length builder.old.begun }
+    requires depth { length builder.old.begun < 8 }
+    requires room { building_size builder.old ≤ 1000 }
+    ensures { OnOk result (builder.new ≡ after_put builder.old product_parameters) }
+{
+    put_object(builder, RDBACCCL, &SQLAM.to_be_bytes())?;
+    put_object(builder, PRDID, codes_of(alloc, PRODUCT)?.as_slice())
+}
+
 /// ACCRDB. DDM, volume 3, ACCRDB.
 #[tactic(auto, unfolding(crate::specs::Start::accrdb_object))]
 fn accrdb_object(alloc: Global, rdb: &[u8]) -> Result<Octets, NoMemory>
@@ -66,21 +84,10 @@ fn accrdb_object(alloc: Global, rdb: &[u8]) -> Result<Octets, NoMemory>
 {
     let mut builder = Builder::new(alloc);
     builder.begin(ACCRDB)?;
-    put_object(&mut builder, RDBACCCL, &SQLAM.to_be_bytes())?;
-    put_object(
-        &mut builder,
-        PRDID,
-        codes_of(alloc, b"SCR01010")?.as_slice(),
-    )?;
-    put_object(
-        &mut builder,
-        TYPDEFNAM,
-        codes_of(alloc, b"QTDSQL370")?.as_slice(),
-    )?;
+    put_product(alloc, &mut builder)?;
+    put_object(&mut builder, TYPDEFNAM, codes_of(alloc, TYPDEF)?.as_slice())?;
     put_object(&mut builder, RDBNAM, &padded_name(rdb))?;
-    builder.begin(TYPDEFOVR)?;
-    put_object(&mut builder, CCSIDSBC, &US_ENGLISH.to_be_bytes())?;
-    builder.end()?;
+    put_outer(&mut builder, TYPDEFOVR, CCSIDSBC, &US_ENGLISH.to_be_bytes())?;
     builder.end()?;
     Ok(builder.finish())
 }
