@@ -1,5 +1,6 @@
-ghost use Rattle.std.specs.Prelude.{◌≡◌, ◌≤◌, ◌<◌, ◌++◌, length, IfOk, OnOk};
-ghost use Rattle.ddm_objects.specs.Builder.{building_size, after_put};
+ghost use Rattle.std.specs.Prelude.{◌≡◌, ◌≤◌, ◌++◌, length, IfOk, OnOk};
+ghost use Rattle.ddm_objects.specs.Builder.{nothing_built, after_begin, after_put};
+ghost use Rattle.ddm_codepoints.specs.CodePoint.{accrdb};
 ghost use Rattle.dss_frame.specs.Dss.{canonical};
 ghost use Rattle.access_handshake.specs.Access.{request, hello_object};
 ghost use Rattle.script_commands.specs.Start.{secchk_object, product_parameters, accrdb_object, start_bytes};
@@ -65,15 +66,15 @@ fn secchk_object(
     Ok(builder.finish())
 }
 
-/// The manager of the access, and the product. DDM, volume 3, RDBACCCL, PRDID.
-fn put_product(alloc: Global, builder: &mut Builder) -> Result<(), NoMemory>
-    requires begun { 0 < length builder.old.begun }
-    requires depth { length builder.old.begun < 8 }
-    requires room { building_size builder.old ≤ 1000 }
-    ensures { OnOk result (builder.new ≡ after_put builder.old product_parameters) }
+/// ACCRDB that is begun, with the manager of the access and the product. DDM, volume 3, RDBACCCL, PRDID.
+fn begin_accrdb(alloc: Global) -> Result<Builder, NoMemory>
+    ensures { IfOk result (λ builder. builder ≡ after_put (after_begin nothing_built accrdb) product_parameters) }
 {
-    put_object(builder, RDBACCCL, &SQLAM.to_be_bytes())?;
-    put_object(builder, PRDID, codes_of(alloc, PRODUCT)?.as_slice())
+    let mut builder = Builder::new(alloc);
+    builder.begin(ACCRDB)?;
+    put_object(&mut builder, RDBACCCL, &SQLAM.to_be_bytes())?;
+    put_object(&mut builder, PRDID, codes_of(alloc, PRODUCT)?.as_slice())?;
+    Ok(builder)
 }
 
 /// ACCRDB. DDM, volume 3, ACCRDB.
@@ -82,9 +83,7 @@ fn accrdb_object(alloc: Global, rdb: &[u8]) -> Result<Octets, NoMemory>
     requires { length rdb.now ≤ 18 }
     ensures { IfOk result (λ object. object ≡ accrdb_object rdb.now) }
 {
-    let mut builder = Builder::new(alloc);
-    builder.begin(ACCRDB)?;
-    put_product(alloc, &mut builder)?;
+    let mut builder = begin_accrdb(alloc)?;
     put_object(&mut builder, TYPDEFNAM, codes_of(alloc, TYPDEF)?.as_slice())?;
     put_object(&mut builder, RDBNAM, &padded_name(rdb))?;
     put_outer(&mut builder, TYPDEFOVR, CCSIDSBC, &US_ENGLISH.to_be_bytes())?;
