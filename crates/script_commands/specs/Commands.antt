@@ -1,6 +1,6 @@
 -- The commands that an application of a script sends: DDM, volume 3. Each SQLSTT and SQLATTR stands in an object DSS of its
 -- own: this project's choice.
-use Rattle.std.specs.Prelude.{ℕ, Bool, false, List, [], ◌∷◌, ◌++◌, if◌then◌else◌}
+use Rattle.std.specs.Prelude.{ℕ, Bool, false, List, [], ◌∷◌, if◌then◌else◌}
 use Rattle.std.specs.List.{flat_map}
 use Rattle.dss_frame.specs.Dss.{canonical}
 use Rattle.ddm_objects.specs.Objects.{canonical_object}

@@ -1,6 +1,6 @@
 -- The objects of the commands that an application of a script sends. Characters are those of QTDSQL370: DDM, volume 3,
 -- TYPDEFNAM.
-use Rattle.std.specs.Prelude.{ℕ, Bool, List, [], ◌∷◌, ◌++◌, length, replicate, codes, if◌then◌else◌}
+use Rattle.std.specs.Prelude.{ℕ, List, [], ◌∷◌, ◌++◌, length, replicate, codes}
 use Rattle.byteorder.specs.Endian.{big_bytes}
 use Rattle.ddm_objects.specs.Objects.{canonical_object}
 use Rattle.ddm_codepoints.specs.declared.typdef.TypDef.TheVariants.{Sql370}
