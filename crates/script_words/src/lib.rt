@@ -9,9 +9,7 @@ mod stage;
 mod words;
 
 pub use field::{is_name, is_printable, read_text};
-pub use keyword::{
-    CommandWord, HeaderWord, Keyword, MoveWord, StepWord, fits_count, read_keyword,
-};
+pub use keyword::{CommandWord, HeaderWord, Keyword, MoveWord, StepWord, fits_count, read_keyword};
 pub use number::{read_number, read_within};
 pub use stage::{Stage, is_whole, stage_after};
 pub use words::{
