@@ -1,0 +1,5 @@
+pub mod Sizes
+pub mod Commands
+pub mod Params
+pub mod Cores
+pub mod Coming

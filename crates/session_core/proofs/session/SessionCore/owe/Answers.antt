@@ -1,0 +1,5 @@
+use Rattle.session_core.proofs.Cores.{none_fit}
+use Rattle.session_core.proofs.session.SessionCore.owe.Goals as goal
+
+pub invariant_of-self : goal.invariant_of-self
+invariant_of-self c = (c.self.invariant.0, none_fit _ c.new.ensures)

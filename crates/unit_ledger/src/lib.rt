@@ -1,0 +1,6 @@
+//! What applications are told of their units of work.
+#![tactic(auto)]
+
+mod outcome;
+
+pub use outcome::Outcome;
