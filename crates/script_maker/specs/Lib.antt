@@ -1,0 +1,3 @@
+pub mod Draw
+pub mod Lines
+pub mod Made
