@@ -12,8 +12,8 @@ use std::alloc::Global;
 fn put_users(alloc: Global, out: &mut Octets, apps: u32) -> Result<(), NoMemory>
     ensures { OnOk result (out.new ≡ out.old ++ each_app user_line apps) }
 {
-    for app in 1..=apps {
-        put_user(alloc, out, app)?;
+    for place in 0..apps {
+        put_user(alloc, out, place + 1)?;
     }
     Ok(())
 }
@@ -22,8 +22,8 @@ fn put_users(alloc: Global, out: &mut Octets, apps: u32) -> Result<(), NoMemory>
 fn put_starts(alloc: Global, out: &mut Octets, apps: u32) -> Result<(), NoMemory>
     ensures { OnOk result (out.new ≡ out.old ++ each_app start_line apps) }
 {
-    for app in 1..=apps {
-        put_start(alloc, out, app)?;
+    for place in 0..apps {
+        put_start(alloc, out, place + 1)?;
     }
     Ok(())
 }
@@ -32,8 +32,8 @@ fn put_starts(alloc: Global, out: &mut Octets, apps: u32) -> Result<(), NoMemory
 fn put_ends(alloc: Global, out: &mut Octets, apps: u32) -> Result<(), NoMemory>
     ensures { OnOk result (out.new ≡ out.old ++ each_app end_line apps) }
 {
-    for app in 1..=apps {
-        put_end(alloc, out, app)?;
+    for place in 0..apps {
+        put_end(alloc, out, place + 1)?;
     }
     Ok(())
 }
