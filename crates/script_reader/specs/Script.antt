@@ -58,7 +58,7 @@ abbrev pub after_line : ℕ → Result DraftText ScriptWhy → (DraftText → Re
 after_line number (Ok draft) rest = rest draft
 after_line number (Err why) rest = Err (record { line = number; why = why })
 
--- the header has a name, a cap and a member, and no chain goes on
+-- the header is whole, with the name of the database, and no chain goes on
 abbrev pub is_finished : DraftText → Bool
 is_finished draft = is_whole draft.stage && is_rdb_name draft.text.rdb && not (some_goes_on draft.chains)
 
