@@ -1,14 +1,13 @@
 -- How transports are kept in code. No standard speaks of it: this is this project's own.
 use Rattle.std.specs.Prelude.{◌≡◌, ℕ, ◌<◌, ◌≤◌, Bool, false, ◌||◌, ◌&&◌, ◌==◌, nat_lt, List, map, drop, length, slice_get}
-use Rattle.std.specs.Prelude.{Option, Some, None, option_map}
+use Rattle.std.specs.Prelude.{Option, Some, None, option_map, slice_index_or, if◌then◌else◌}
 use Rattle.std.specs.List.{AllByRecursion}
 use Rattle.std.specs.Ordering.{nat_cmp}
-use Rattle.std.specs.BTreeSet.{contains}
+use Rattle.std.specs.BTreeSet.{BTreeSet, contains}
 use Rattle.member_core.specs.Conversation.{ConversationState}
 use Rattle.gateway_wires.specs.Line.{LineState, is_flying_on}
-use Rattle.gateway_wires.specs.Wires.{WiresState, line_of}
+use Rattle.gateway_wires.specs.Wires.{WiresState}
 use Rattle.gateway_wires.specs.declared.wire.Wire.{Wire}
-use Rattle.gateway_wires.specs.declared.member.Member.{Member}
 
 -- ---- one transport
 
@@ -39,26 +38,19 @@ on_dialled change x = record x { line = change x.line }
 
 -- ---- all transports
 
-abbrev pub fell_by : Option Member → ℕ
-fell_by None = 0
-fell_by (Some member) = member.fell
-
 -- how many had been dialled when this member went down last
-abbrev pub fell_of : List Member → ℕ → ℕ
-fell_of members member = fell_by (slice_get members member)
+abbrev pub fell_of : List ℕ → ℕ → ℕ
+fell_of fell member = slice_index_or fell member 0
 
 -- A transport is dropped by itself, or with its member.
-abbrev pub has_dropped : List Member → {U : Type 0} → Dialled U → Bool
-has_dropped members x = x.line.dropped || nat_lt x.since (fell_of members x.line.member)
+abbrev pub has_dropped : List ℕ → {U : Type 0} → Dialled U → Bool
+has_dropped fell x = x.line.dropped || nat_lt x.since (fell_of fell x.line.member)
 
-abbrev pub seen_line : List Member → {U : Type 0} → Dialled U → LineState U
-seen_line members x = record x.line { dropped = has_dropped members x }
+abbrev pub seen_line : List ℕ → {U : Type 0} → Dialled U → LineState U
+seen_line fell x = record x.line { dropped = has_dropped fell x }
 
-abbrev pub wires_in : {U : Type 0} → List (Option (Dialled U)) → List Member → WiresState U
-wires_in slots members = record {
-  lines = map (option_map (seen_line members)) slots;
-  down = map (λ (member : Member). member.down) members;
-}
+abbrev pub wires_in : {U : Type 0} → List (Option (Dialled U)) → List ℕ → List Bool → WiresState U
+wires_in lines fell down = record { lines = map (option_map (seen_line fell)) lines; down = down }
 
 -- of a transport that was dialled
 abbrev pub OfDialled : {U : Type 0} → (Dialled U → Type 0) → Option (Dialled U) → Type 0
@@ -74,12 +66,49 @@ abbrev pub flies_to : ℕ → {U : Type 0} → Option (LineState U) → Bool
 flies_to member None = false
 flies_to member (Some x) = is_flying_on x && x.member == member
 
-abbrev pub is_sorted_by : Option Member → ℕ → Bool
-is_sorted_by None number = false
-is_sorted_by (Some member) number = contains nat_cmp member.flying number
+abbrev pub is_in_set : Option (BTreeSet ℕ) → ℕ → Bool
+is_in_set None number = false
+is_in_set (Some numbers) number = contains nat_cmp numbers number
 
-pub record AreWires {U : Type 0} (slots : List (Option (Dialled U))) (members : List Member) (count : ℕ) : Type 0 where
-  pub all_members : length members ≡ 33
-  pub dialled : AllByRecursion (OfDialled (WasDialled count)) slots
+-- the number is among those of this member
+abbrev pub is_in : List (BTreeSet ℕ) → ℕ → ℕ → Bool
+is_in flying member number = is_in_set (slice_get flying member) number
+
+pub record AreWires {U : Type 0} (lines : List (Option (Dialled U))) (fell : List ℕ) (flying : List (BTreeSet ℕ)) (count : ℕ) : Type 0 where
+  pub all_members : length flying ≡ 33
+  pub dialled : AllByRecursion (OfDialled (WasDialled count)) lines
   pub flying : (member number : ℕ) → member < 33
-      → is_sorted_by (slice_get members member) number ≡ flies_to member (line_of (wires_in slots members) number)
+      → is_in flying member number ≡ flies_to member (slice_index_or (map (option_map (seen_line fell)) lines) number None)
+
+-- ---- the numbers of those with bytes on their way
+
+-- there are none
+abbrev pub AreNone : List (BTreeSet ℕ) → Type 0
+AreNone flying = (member number : ℕ) → is_in flying member number ≡ false
+
+-- the same numbers
+pub record AreSame (old new : List (BTreeSet ℕ)) : Type 0 where
+  pub size : length new ≡ length old
+  pub numbers : (member number : ℕ) → is_in new member number ≡ is_in old member number
+
+-- this number of this member is among them or isn't, and all others are as they were
+pub record Sorts (member number : ℕ) (flies : Bool) (old new : List (BTreeSet ℕ)) : Type 0 where
+  pub size : length new ≡ length old
+  pub this : is_in new member number ≡ flies
+  pub others : (another other : ℕ) → (another == member && other == number) ≡ false → is_in new another other ≡ is_in old another other
+
+-- a transport that has no bytes on its way leaves them
+abbrev pub LeavesAtRest : {U : Type 0} → ℕ → LineState U → List (BTreeSet ℕ) → List (BTreeSet ℕ) → Type 0
+LeavesAtRest number x old new = if length x.flying == 0 then Sorts x.member number false old new else (old ≡ new)
+
+abbrev pub lower : Option ℕ → Option ℕ → Option ℕ
+lower None other = other
+lower (Some one) None = Some one
+lower (Some one) (Some other) = if nat_lt other one then Some other else Some one
+
+-- the lowest number of all members
+abbrev pub IsLowest : List (BTreeSet ℕ) → Option ℕ → Type 0
+IsLowest flying None = AreNone flying
+IsLowest flying (Some lowest) =
+    ((member : ℕ) × (is_in flying member lowest ≡ true))
+    × ((member number : ℕ) → number < lowest → is_in flying member number ≡ false)

@@ -1,7 +1,6 @@
 -- All transports, by their numbers, and the members that are down: this project's own.
-use Rattle.std.specs.Prelude.{ℕ, suc, ◌-◌, Bool, true, false, List, [], ◌∷◌, ◌++◌, map, length, replicate, find, slice_set, slice_index_or}
+use Rattle.std.specs.Prelude.{◌≡◌, ℕ, suc, ◌<◌, ◌-◌, Bool, true, false, List, [], ◌∷◌, ◌++◌, map, length, replicate, slice_set, slice_index_or}
 use Rattle.std.specs.Prelude.{Option, Some, None, option_map}
-use Rattle.std.specs.List.{range_with_len}
 use Rattle.server_list.specs.Lists.{Listing}
 use Rattle.plain_model.specs.Group.{Meaning}
 use Rattle.gateway_wires.specs.Line.{LineState, dialled, with_acted, acting, flying_of, fallen_with, is_flying}
@@ -45,6 +44,7 @@ abbrev pub shared_by : {S U : Type 0} → Meaning S U → ℕ → Option (LineSt
 shared_by m count None shared = shared
 shared_by m count (Some x) shared = (acting m count x shared).shared
 
--- the lowest number of a transport with bytes on their way
-abbrev pub first_flying : {U : Type 0} → WiresState U → Option ℕ
-first_flying w = find (λ number. is_flying (line_of w number)) (range_with_len 0 (length w.lines))
+-- None has bytes on its way that its member will act on; or this is the lowest number of one that has.
+abbrev pub IsFirstFlying : {U : Type 0} → WiresState U → Option ℕ → Type 0
+IsFirstFlying w None = (number : ℕ) → is_flying (line_of w number) ≡ false
+IsFirstFlying w (Some first) = (is_flying (line_of w first) ≡ true) × ((number : ℕ) → number < first → is_flying (line_of w number) ≡ false)

@@ -3,7 +3,6 @@
 #![tactic(auto)]
 
 mod line;
-mod member;
 mod wire;
 mod wires;
 

@@ -1,11 +1,10 @@
-ghost use Rattle.std.specs.Prelude.{◌≡◌, ◌≤◌, ◌<◌, length, option_map, option_copied, IfOk, OnOk, None, true};
+ghost use Rattle.std.specs.Prelude.{◌≡◌, ◌≤◌, ◌<◌, length, option_map, option_copied, IfOk, OnOk, OnErr, None, true, false};
 ghost use Rattle.server_list.specs.Tried.{is_member};
-ghost use Rattle.gateway_wires.specs.Inside.{fell_of, has_dropped};
+ghost use Rattle.gateway_wires.specs.Inside.{has_dropped, AreNone, Sorts, AreSame, LeavesAtRest, IsLowest, lower};
 ghost use Rattle.gateway_wires.specs.Line.{dialled, with_sent, with_acted, with_read, with_dropped, is_dropped, stands, flying_of, coming_of, ran_of, wire};
-ghost use Rattle.gateway_wires.specs.Wires.{no_wires, line_of, is_down, on_line, with_line, with_room, with_down, with_up, shared_by, first_flying};
+ghost use Rattle.gateway_wires.specs.Wires.{no_wires, line_of, is_down, on_line, with_line, with_room, with_down, with_up, shared_by, IsFirstFlying};
 
 use crate::line::Line;
-use crate::member::Member;
 use crate::wire::Wire;
 use link_ends::NoMemory;
 use plain_model::Group;
@@ -22,7 +21,11 @@ const MEMBERS: usize = 33;
 pub struct Wires<G: Group> {
     alloc: Global,
     lines: Vec<Option<Line<G>>>,
-    members: Vec<Member>,
+    /// By its number: whether a member is down; how many transports had been dialled when it went down last; and which of its
+    /// transports have bytes on their way that it will act on.
+    down: [bool; 33],
+    fell: [usize; 33],
+    flying: Vec<BTreeSet<u64>>,
     /// The numbers of all transports that were dialled, oldest first.
     dialled: Vec<u64>,
 }
@@ -35,9 +38,9 @@ impl<G: Group> Model for Wires<G> {
 
     ghost use Rattle.gateway_wires.specs.Inside.{wires_in, AreWires};
 
-    ghost view = { λ w. wires_in w.lines.items w.members.items };
+    ghost view = { λ w. wires_in w.lines.items w.fell w.down };
 
-    ghost invariant = { λ w. AreWires w.lines.items w.members.items (length w.dialled.items) };
+    ghost invariant = { λ w. AreWires w.lines.items w.fell w.flying.items (length w.dialled.items) };
 }
 
 impl<G: Group> Wires<G> {
@@ -45,18 +48,12 @@ impl<G: Group> Wires<G> {
     pub fn new(alloc: Global) -> Result<Wires<G>, NoMemory>
         ensures { IfOk result (λ wires. wires ≡ no_wires) }
     {
-        let mut members = Vec::new(alloc);
-        for _ in 0..MEMBERS {
-            members.push(Member {
-                down: false,
-                fell: 0,
-                flying: BTreeSet::new(alloc),
-            })?;
-        }
         Ok(Wires {
             alloc,
             lines: Vec::new(alloc),
-            members,
+            down: [false; MEMBERS],
+            fell: [0; MEMBERS],
+            flying: no_flying(alloc)?,
             dialled: Vec::new(alloc),
         })
     }
@@ -67,31 +64,29 @@ impl<G: Group> Wires<G> {
     pub fn is_down(&self, member: u32) -> bool
         ensures { result ≡ is_down self.now member }
     {
-        match self.members.get(member as usize) {
-            Some(member) => member.down,
+        match self.down.get(member as usize) {
+            Some(down) => *down,
             None => true,
         }
     }
 
     /// A member goes down: its transports are dropped, and bytes on their way to it are never acted on.
     pub fn down(&mut self, member: u32)
+        requires { is_member member ≡ true }
         ensures { self.new ≡ with_down member self.old }
     {
-        let fell = self.dialled.len();
-        if let Some(member) = self.members.get_mut(member as usize) {
-            member.down = true;
-            member.fell = fell;
-            member.flying = BTreeSet::new(self.alloc);
-        }
+        let place = member as usize;
+        self.down[place] = true;
+        self.fell[place] = self.dialled.len();
+        self.flying[place] = BTreeSet::new(self.alloc);
     }
 
     /// A member comes up.
     pub fn up(&mut self, member: u32)
+        requires { is_member member ≡ true }
         ensures { self.new ≡ with_up member self.old }
     {
-        if let Some(member) = self.members.get_mut(member as usize) {
-            member.down = false;
-        }
+        self.down[member as usize] = false;
     }
 
     // ---- transports
@@ -128,7 +123,7 @@ impl<G: Group> Wires<G> {
         ensures { result ≡ is_dropped (line_of self.now number) }
     {
         match self.line(number) {
-            Some(line) => has_dropped(&self.members, line),
+            Some(line) => has_dropped(&self.fell, line),
             None => false,
         }
     }
@@ -138,7 +133,7 @@ impl<G: Group> Wires<G> {
         ensures { result ≡ stands (line_of self.now number) }
     {
         match self.line(number) {
-            Some(line) => !has_dropped(&self.members, line),
+            Some(line) => !has_dropped(&self.fell, line),
             None => false,
         }
     }
@@ -162,11 +157,11 @@ impl<G: Group> Wires<G> {
         let Some(Some(line)) = self.lines.get_mut(number as usize) else {
             return Ok(());
         };
-        if !piece.is_empty() && !has_dropped(&self.members, line) {
-            enter(&mut self.members, line.member(), number)?;
+        if !piece.is_empty() && !has_dropped(&self.fell, line) {
+            enter(&mut self.flying, line.member(), number)?;
         }
         let sent = line.send(piece);
-        leave_at_rest(&mut self.members, number, line);
+        leave_at_rest(&mut self.flying, number, line);
         sent
     }
 
@@ -182,13 +177,9 @@ impl<G: Group> Wires<G> {
 
     /// The lowest number of a transport whose member will act on bytes that are on their way.
     pub fn first_flying(&self) -> Option<u64>
-        ensures { result ≡ first_flying self.now }
+        ensures { IsFirstFlying self.now result }
     {
-        let mut lowest = None;
-        for member in &self.members {
-            lowest = lower(lowest, member.flying.first().copied());
-        }
-        lowest
+        first_of(&self.flying)
     }
 
     /// Its member acts on the next so many bytes.
@@ -201,7 +192,7 @@ impl<G: Group> Wires<G> {
             return Ok(());
         };
         line.act(count, group)?;
-        leave_at_rest(&mut self.members, number, line);
+        leave_at_rest(&mut self.flying, number, line);
         Ok(())
     }
 
@@ -243,7 +234,7 @@ impl<G: Group> Wires<G> {
             return;
         };
         line.drop_it();
-        leave(&mut self.members, line.member(), number);
+        leave(&mut self.flying, line.member(), number);
     }
 }
 
@@ -257,47 +248,71 @@ fn make_room<G: Group>(lines: &mut Vec<Option<Line<G>>>, number: u64) -> Result<
     Ok(())
 }
 
-/// How many transports had been dialled when this member went down last.
-fn fell(members: &[Member], member: u32) -> usize
-    ensures { result ≡ fell_of members.now member }
+/// No transport has bytes on its way.
+fn no_flying(alloc: Global) -> Result<Vec<BTreeSet<u64>>, NoMemory>
+    ensures size { IfOk result (λ flying. length flying.items ≡ 33) }
+    ensures none { IfOk result (λ flying. AreNone flying.items) }
 {
-    match members.get(member as usize) {
-        Some(member) => member.fell,
-        None => 0,
+    let mut flying = Vec::new(alloc);
+    for _ in 0..MEMBERS {
+        flying.push(BTreeSet::new(alloc))?;
     }
+    Ok(flying)
 }
 
 /// Whether a transport is dropped, by itself or with its member.
-fn has_dropped<G: Group>(members: &[Member], line: &Line<G>) -> bool
-    ensures { result ≡ has_dropped members.now line.now }
+fn has_dropped<G: Group>(fell: &[usize], line: &Line<G>) -> bool
+    ensures { result ≡ has_dropped fell.now line.now }
 {
-    line.is_dropped() || line.since() < fell(members, line.member())
+    match fell.get(line.member() as usize) {
+        Some(fell) => line.is_dropped() || line.since() < *fell,
+        None => line.is_dropped(),
+    }
 }
 
 /// A transport of this member has bytes on their way.
-fn enter(members: &mut [Member], member: u32, number: u64) -> Result<(), NoMemory> {
-    if let Some(member) = members.get_mut(member as usize) {
-        member.flying.insert(number)?;
-    }
+fn enter(flying: &mut [BTreeSet<u64>], member: u32, number: u64) -> Result<(), NoMemory>
+    requires { member < length flying.old }
+    ensures ok { OnOk result (Sorts member number true flying.old flying.new) }
+    ensures err { OnErr result (AreSame flying.old flying.new) }
+{
+    flying[member as usize].insert(number)?;
     Ok(())
 }
 
 /// A transport of this member has none, or is dropped.
-fn leave(members: &mut [Member], member: u32, number: u64) {
-    if let Some(member) = members.get_mut(member as usize) {
-        member.flying.remove(&number);
-    }
+fn leave(flying: &mut [BTreeSet<u64>], member: u32, number: u64)
+    requires { member < length flying.old }
+    ensures { Sorts member number false flying.old flying.new }
+{
+    flying[member as usize].remove(&number);
 }
 
 /// The same, where it has none.
-fn leave_at_rest<G: Group>(members: &mut [Member], number: u64, line: &Line<G>) {
+fn leave_at_rest<G: Group>(flying: &mut [BTreeSet<u64>], number: u64, line: &Line<G>)
+    requires { line.now.line.member < length flying.old }
+    ensures { LeavesAtRest number line.now.line flying.old flying.new }
+{
     if line.flying() == 0 {
-        leave(members, line.member(), number);
+        leave(flying, line.member(), number);
     }
 }
 
+/// The lowest number in all of these.
+fn first_of(flying: &[BTreeSet<u64>]) -> Option<u64>
+    ensures { IsLowest flying.now result }
+{
+    let mut lowest = None;
+    for numbers in flying {
+        lowest = lower(lowest, numbers.first().copied());
+    }
+    lowest
+}
+
 /// The lower of two numbers.
-fn lower(one: Option<u64>, other: Option<u64>) -> Option<u64> {
+fn lower(one: Option<u64>, other: Option<u64>) -> Option<u64>
+    ensures { result ≡ lower one other }
+{
     match (one, other) {
         (Some(one), Some(other)) if other < one => Some(other),
         (Some(one), _) => Some(one),

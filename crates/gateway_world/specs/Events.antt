@@ -22,10 +22,10 @@ use Rattle.gateway_setup.specs.declared.event.Event.{Event}
 use Rattle.gateway_setup.specs.declared.event.Event.TheVariants as event
 use Rattle.gateway_wires.specs.Line.{LineState, dialled, with_sent, acting, acted_by, codes_run, with_read, with_dropped, fallen_with, is_empty}
 use Rattle.gateway_wires.specs.Line.{is_dropped, coming_of}
-use Rattle.gateway_world.specs.State.{State, App, Step, Place, AtRest, LentTo, Gone, session_of, with_app, with_session, with_line, with_place}
+use Rattle.gateway_world.specs.State.{State, Step, Place, AtRest, LentTo, Gone, session_of, with_app, with_session, with_line, with_place}
 use Rattle.gateway_world.specs.State.{noting, quietly, of_session}
 use Rattle.gateway_world.specs.Told.{loses, begins_with, begins_behind, sends, told_by_piece, told_by_lent, run_by, each_run}
-use Rattle.gateway_world.specs.Asked.{calling, asking, stepping, leaving}
+use Rattle.gateway_world.specs.Asked.{asking, stepping, leaving}
 use Rattle.gateway_world.specs.declared.entry.Entry.{Entry}
 use Rattle.gateway_world.specs.declared.entry.Entry.TheVariants as entry
 
@@ -160,7 +160,7 @@ abbrev pub after_send_by : {S U : Type 0} → ℕ → ℕ → ℕ → List ℕ �
 after_send_by i count number piece z =
     if is_dropped (z.line number) then stepping i [] (after_lost why.Fault (session_of z i)) z
     else stepping i (sends (session_of z i) (after_sent count (session_of z i))) (after_sent count (session_of z i))
-        (on_line number (with_sent piece) z)
+    (on_line number (with_sent piece) z)
 
 abbrev pub after_send_on : {S U : Type 0} → ℕ → ℕ → Option Held → State S U → Step S U
 after_send_on i count None z = quietly z

@@ -5,3 +5,4 @@ pub mod Events
 pub mod Can
 pub mod Replay
 pub mod Order
+pub mod Shows

@@ -13,7 +13,7 @@ use Rattle.gateway_world.specs.declared.entry.Entry.{Entry}
 
 -- ---- applications
 
-pub record App : Type 0 where
+pub record AppState : Type 0 where
   -- it was named, so that it has a session
   pub named : Bool
   pub session : Session
@@ -21,7 +21,7 @@ pub record App : Type 0 where
   pub unread : List ℕ
   pub sent : List ℕ
 
-abbrev pub new_app : Setup → ℕ → App
+abbrev pub new_app : Setup → ℕ → AppState
 new_app setup i = record { named = false; session = new_session i (characters_of setup.rdb); unread = []; sent = [] }
 
 -- ---- transports
@@ -42,7 +42,7 @@ pub data Place : Type 0 where
 pub record State (S U : Type 0) : Type 0 where
   -- the data of the group
   pub shared : S
-  pub app : ℕ → App
+  pub app : ℕ → AppState
   -- None: it was never dialled
   pub line : ℕ → Option (LineState U)
   pub place : ℕ → Place
@@ -67,7 +67,7 @@ start setup first = record {
 abbrev pub session_of : {S U : Type 0} → State S U → ℕ → Session
 session_of z i = (z.app i).session
 
-abbrev pub with_app : {S U : Type 0} → ℕ → App → State S U → State S U
+abbrev pub with_app : {S U : Type 0} → ℕ → AppState → State S U → State S U
 with_app i a z = record z { app = put z.app i a }
 
 abbrev pub with_session : {S U : Type 0} → ℕ → Session → State S U → State S U

@@ -5,17 +5,33 @@ use link_ends::Sequence;
 #[derive(Clone, Copy, Debug, PartialEq, Eq)]
 pub enum Entry {
     /// A member ran the command with this code point on a transport.
-    Run { transport: u64, code: u16 },
+    Run {
+        transport: u64,
+        code: u16,
+    },
     /// What the pool answered to an application's session that asked for a transport.
-    Lend { app: u32, lent: Lent },
+    Lend {
+        app: u32,
+        lent: Lent,
+    },
     /// The session gave its transport back.
-    Give { app: u32, transport: u64 },
+    Give {
+        app: u32,
+        transport: u64,
+    },
     /// The last byte of the reply to a chain was said to the application.
-    Answer { app: u32 },
+    Answer {
+        app: u32,
+    },
     /// A list of members that the session was told was given to the pool.
-    Learn { app: u32 },
+    Learn {
+        app: u32,
+    },
     /// The session made this error.
-    Error { app: u32, word: ErrorWord },
+    Error {
+        app: u32,
+        word: ErrorWord,
+    },
     /// The session lost its transport.
     Lost {
         app: u32,
@@ -23,7 +39,9 @@ pub enum Entry {
         why: LossWhy,
     },
     /// The session ended while it waited for a transport.
-    Leave { app: u32 },
+    Leave {
+        app: u32,
+    },
 }
 
 /// The log: entries, oldest first.

@@ -56,8 +56,7 @@ impl<G: Group + Drop> Parts<G> {
         if self.wires.is_dropped(transport) {
             app.session.on_lost(LossWhy::Fault)?;
         } else {
-            self.wires
-                .send(transport, &app.session.to_send()[..count])?;
+            self.wires.send(transport, &app.session.to_send()[..count])?;
             app.session.on_sent(count)?;
         }
         ask(number, &mut app.session, &mut self.pool, &mut self.log)
@@ -71,8 +70,7 @@ impl<G: Group + Drop> Parts<G> {
         let Some(transport) = app.session.held() else {
             return Ok(());
         };
-        app.session
-            .on_back(&self.wires.coming(transport)[..count])?;
+        app.session.on_back(&self.wires.coming(transport)[..count])?;
         self.wires.count_read(transport, count);
         ask(number, &mut app.session, &mut self.pool, &mut self.log)
     }

@@ -39,7 +39,12 @@ impl<G: Group + Drop> Parts<G> {
     }
 
     /// The earlier one of an event and that of an application's session, if it can be taken.
-    fn earlier(&self, first: Option<(Kind, Event)>, number: u32, app: &App) -> Option<(Kind, Event)> {
+    fn earlier(
+        &self,
+        first: Option<(Kind, Event)>,
+        number: u32,
+        app: &App,
+    ) -> Option<(Kind, Event)> {
         let Some((kind, event)) = event_of(number, app.session.need()) else {
             return first;
         };

@@ -68,10 +68,8 @@ impl Head {
 
     fn add_user(&mut self, rest: &str) -> Result<(), Fail> {
         let (name, password) = cut(rest);
-        self.group
-            .add_user(name.as_bytes(), password.as_bytes())?;
-        self.first
-            .add_user(name.as_bytes(), password.as_bytes())?;
+        self.group.add_user(name.as_bytes(), password.as_bytes())?;
+        self.first.add_user(name.as_bytes(), password.as_bytes())?;
         Ok(())
     }
 
@@ -79,10 +77,8 @@ impl Head {
         let (schema, rest) = cut(rest);
         let (key, text) = cut(rest);
         let key = number(key)?;
-        self.group
-            .add_row(schema.as_bytes(), key, text.as_bytes())?;
-        self.first
-            .add_row(schema.as_bytes(), key, text.as_bytes())?;
+        self.group.add_row(schema.as_bytes(), key, text.as_bytes())?;
+        self.first.add_row(schema.as_bytes(), key, text.as_bytes())?;
         Ok(())
     }
 
@@ -165,12 +161,7 @@ impl Scene {
             read_hex(self.alloc, rest.as_bytes())?.ok_or("digits")?
         } else {
             let (user, password) = cut(rest);
-            start_chains(
-                self.alloc,
-                b"SAMPLE",
-                user.as_bytes(),
-                password.as_bytes(),
-            )?
+            start_chains(self.alloc, b"SAMPLE", user.as_bytes(), password.as_bytes())?
         };
         self.world.append(number(app)?, bytes.as_slice())?;
         Ok(())
@@ -393,7 +384,8 @@ impl Scene {
                     ..
                 } => reuses = reuses.saturating_add(1),
                 Entry::Lost {
-                    why: LossWhy::Left, ..
+                    why: LossWhy::Left,
+                    ..
                 } => {}
                 Entry::Lost { .. } => losses = losses.saturating_add(1),
                 _ => {}
@@ -432,7 +424,8 @@ const UNIT: &str = "\
 0015D0520001000F220C0006114900040005211501000BD003000100052408FF";
 
 /// The log of the same.
-const UNIT_LOG: &str = "answer 1, lend 1 dial 1 1, run 1 1041, run 1 106D, run 1 106E, run 1 2001, answer 1, run 1 200A, \
+const UNIT_LOG: &str =
+    "answer 1, lend 1 dial 1 1, run 1 1041, run 1 106D, run 1 106E, run 1 2001, answer 1, run 1 200A, \
 answer 1, run 1 200E, give 1 1, answer 1";
 
 /// A statement of a unit that was lost is told so.
@@ -473,7 +466,10 @@ fn a_unit_is_committed(rt: HostRuntime) -> Result<(), Fail> {
     s.play("start 1 ALICE SECRET; ins 1 1 A; commit 1; settle")?;
     assert!(rt; s.was_sent(1, UNIT)?);
     assert_eq!(rt; s.log_from(0)?.as_str(), UNIT_LOG);
-    assert_eq!(rt; s.counts()?.as_str(), "ALICE 1 A, commits 1 dials 1 reuses 0 losses 0");
+    assert_eq!(rt;
+        s.counts()?.as_str(),
+        "ALICE 1 A, commits 1 dials 1 reuses 0 losses 0"
+    );
     let wire = s.world.wire(1).ok_or("a transport")?;
     assert_eq!(rt; wire.member, 1);
     assert!(rt; s.world.wire(2).is_none());
@@ -483,9 +479,16 @@ fn a_unit_is_committed(rt: HostRuntime) -> Result<(), Fail> {
 #[test]
 fn a_statement_runs_again(rt: HostRuntime) -> Result<(), Fail> {
     let mut s = scene(rt.alloc(), TWO)?;
-    s.play("start 1 ALICE SECRET; settle; ins+ 1 1 A; commit+ 1; ins 1 2 B; take 1 65536; send 1 65536; act 1 65536")?;
-    s.play("back 1 65536; give 1; lend 1; send 1 65536; act 1 65536; back 1 65536; send 1 65536; cut 1; commit 1; settle")?;
-    assert_eq!(rt; s.counts()?.as_str(), "ALICE 1 A, ALICE 2 B, commits 2 dials 2 reuses 1 losses 1");
+    s.play(
+        "start 1 ALICE SECRET; settle; ins+ 1 1 A; commit+ 1; ins 1 2 B; take 1 65536; send 1 65536; act 1 65536",
+    )?;
+    s.play(
+        "back 1 65536; give 1; lend 1; send 1 65536; act 1 65536; back 1 65536; send 1 65536; cut 1; commit 1; settle",
+    )?;
+    assert_eq!(rt;
+        s.counts()?.as_str(),
+        "ALICE 1 A, ALICE 2 B, commits 2 dials 2 reuses 1 losses 1"
+    );
     Ok(())
 }
 
@@ -508,10 +511,15 @@ fn a_transport_is_shared(rt: HostRuntime) -> Result<(), Fail> {
 #[test]
 fn registers_run_again(rt: HostRuntime) -> Result<(), Fail> {
     let mut s = scene(rt.alloc(), ONE)?;
-    s.play("start 1 ALICE SECRET; set 1 SET CURRENT SCHEMA = 'S9'; settle; cut 1; ins 1 1 A; settle")?;
+    s.play(
+        "start 1 ALICE SECRET; set 1 SET CURRENT SCHEMA = 'S9'; settle; cut 1; ins 1 1 A; settle",
+    )?;
     assert!(rt; s.was_sent(1, DONE)?);
     s.play("ins 1 2 B; commit 1; settle")?;
-    assert_eq!(rt; s.counts()?.as_str(), "S9 1 A, S9 2 B, commits 1 dials 2 reuses 0 losses 1");
+    assert_eq!(rt;
+        s.counts()?.as_str(),
+        "S9 1 A, S9 2 B, commits 1 dials 2 reuses 0 losses 1"
+    );
     Ok(())
 }
 
@@ -520,7 +528,10 @@ fn another_member_takes_over(rt: HostRuntime) -> Result<(), Fail> {
     let mut s = scene(rt.alloc(), TWO)?;
     s.play("start 1 ALICE SECRET; settle; down 1; ins 1 1 A; commit 1; settle")?;
     assert!(rt; s.was_sent(1, UNIT)?);
-    assert_eq!(rt; s.counts()?.as_str(), "ALICE 1 A, commits 1 dials 3 reuses 0 losses 2");
+    assert_eq!(rt;
+        s.counts()?.as_str(),
+        "ALICE 1 A, commits 1 dials 3 reuses 0 losses 2"
+    );
     assert_eq!(rt;
         s.log_from(7)?.as_str(),
         "lost 1 1 fault, lend 1 dial 1 2, lost 1 2 dial, lend 1 dial 2 3, run 3 1041, run 3 106D, run 3 106E, run 3 2001, \
@@ -532,11 +543,16 @@ run 3 200A, answer 1, run 3 200E, give 1 3, answer 1"
 #[test]
 fn a_commit_is_lost_in_flight(rt: HostRuntime) -> Result<(), Fail> {
     let mut s = scene(rt.alloc(), ONE)?;
-    s.play("start 1 ALICE SECRET; ins 1 1 A; settle; commit 1; take 1 65536; send 1 65536; act 1 65536; cut 1; settle")?;
+    s.play(
+        "start 1 ALICE SECRET; ins 1 1 A; settle; commit 1; take 1 65536; send 1 65536; act 1 65536; cut 1; settle",
+    )?;
     assert!(rt; s.was_sent(1, UNKNOWN)?);
-    assert_eq!(rt; s.counts()?.as_str(), "ALICE 1 A, commits 1 dials 2 reuses 0 losses 1");
     assert_eq!(rt;
-        s.log_from(8)?.as_str(),
+        s.counts()?.as_str(),
+        "ALICE 1 A, commits 1 dials 2 reuses 0 losses 1"
+    );
+    assert_eq!(rt;
+        s.log_from(9)?.as_str(),
         "run 1 200E, lost 1 1 cut, lend 1 dial 1 2, run 2 1041, run 2 106D, run 2 106E, run 2 2001, error 1 rerouted-unknown, \
 answer 1"
     );
@@ -546,11 +562,16 @@ answer 1"
 #[test]
 fn a_commit_is_acted_on_late(rt: HostRuntime) -> Result<(), Fail> {
     let mut s = scene(rt.alloc(), ONE)?;
-    s.play("start 1 ALICE SECRET; ins 1 1 A; settle; commit 1; take 1 65536; send 1 65536; cut 1; settle")?;
+    s.play(
+        "start 1 ALICE SECRET; ins 1 1 A; settle; commit 1; take 1 65536; send 1 65536; cut 1; settle",
+    )?;
     assert!(rt; s.was_sent(1, UNKNOWN)?);
-    assert_eq!(rt; s.counts()?.as_str(), "ALICE 1 A, commits 1 dials 2 reuses 0 losses 1");
     assert_eq!(rt;
-        s.log_from(8)?.as_str(),
+        s.counts()?.as_str(),
+        "ALICE 1 A, commits 1 dials 2 reuses 0 losses 1"
+    );
+    assert_eq!(rt;
+        s.log_from(9)?.as_str(),
         "lost 1 1 cut, run 1 200E, lend 1 dial 1 2, run 2 1041, run 2 106D, run 2 106E, run 2 2001, error 1 rerouted-unknown, \
 answer 1"
     );
@@ -560,7 +581,9 @@ answer 1"
 #[test]
 fn half_a_commit_is_never_acted_on(rt: HostRuntime) -> Result<(), Fail> {
     let mut s = scene(rt.alloc(), ONE)?;
-    s.play("start 1 ALICE SECRET; ins 1 1 A; settle; commit 1; take 1 65536; send 1 1; cut 1; settle")?;
+    s.play(
+        "start 1 ALICE SECRET; ins 1 1 A; settle; commit 1; take 1 65536; send 1 1; cut 1; settle",
+    )?;
     assert!(rt; s.was_sent(1, UNKNOWN)?);
     assert_eq!(rt; s.counts()?.as_str(), "commits 0 dials 2 reuses 0 losses 1");
     Ok(())
@@ -569,7 +592,9 @@ fn half_a_commit_is_never_acted_on(rt: HostRuntime) -> Result<(), Fail> {
 #[test]
 fn a_held_cursor_pins_a_transport(rt: HostRuntime) -> Result<(), Fail> {
     let mut s = scene(rt.alloc(), ONE)?;
-    s.play("start 1 ALICE SECRET; prepare 1 5 hold SELECT K, V FROM T; open 1 5; commit 1; settle; cut 1; ins 1 1 A; settle")?;
+    s.play(
+        "start 1 ALICE SECRET; prepare 1 5 hold SELECT K, V FROM T; open 1 5; commit 1; settle; cut 1; ins 1 1 A; settle",
+    )?;
     assert!(rt; s.was_sent(1, REROUTED)?);
     assert_eq!(rt;
         s.log_from(7)?.as_str(),
@@ -582,7 +607,9 @@ run 2 106E, run 2 2001, error 1 rerouted, answer 1"
 #[test]
 fn two_losses_try_a_member(rt: HostRuntime) -> Result<(), Fail> {
     let mut s = scene(rt.alloc(), ONE)?;
-    s.play("start 1 ALICE SECRET; settle; ins 1 1 A; take 1 65536; cut 1; lend 1; dial 1; cut 1; settle")?;
+    s.play(
+        "start 1 ALICE SECRET; settle; ins 1 1 A; take 1 65536; cut 1; lend 1; dial 1; cut 1; settle",
+    )?;
     assert_eq!(rt;
         s.log_from(7)?.as_str(),
         "lost 1 1 cut, lend 1 dial 1 2, lost 1 2 cut, lend 1 none, error 1 ended, answer 1"
@@ -607,16 +634,23 @@ answer 1"
 #[test]
 fn sessions_wait_at_the_cap(rt: HostRuntime) -> Result<(), Fail> {
     let mut s = scene(rt.alloc(), ONE)?;
-    s.play("start 1 ALICE SECRET; start 2 ALICE SECRET; start 3 ALICE SECRET; take 1 65536; take 2 65536; take 3 65536; settle")?;
-    s.play("ins 1 1 A; commit 1; settle; ins 2 2 B; commit 2; settle; ins 3 3 C; commit 3; settle")?;
+    s.play(
+        "start 1 ALICE SECRET; start 2 ALICE SECRET; start 3 ALICE SECRET; take 1 65536; take 2 65536; take 3 65536; settle",
+    )?;
+    s.play(
+        "ins 1 1 A; commit 1; settle; ins 2 2 B; commit 2; settle; ins 3 3 C; commit 3; settle",
+    )?;
     assert_eq!(rt;
         s.log_from(0)?.as_str(),
-        "answer 1, answer 2, answer 3, lend 1 dial 1 1, queue 2, queue 3, run 1 1041, run 1 106D, run 1 106E, run 1 2001, answer 1, \
+        "answer 1, lend 1 dial 1 1, run 1 1041, run 1 106D, run 1 106E, run 1 2001, answer 1, answer 2, queue 2, answer 3, queue 3, \
 run 1 200A, answer 1, run 1 200E, give 1 1, lend 2 idle 1, run 1 106D, run 1 106E, run 1 2001, answer 1, answer 2, run 1 200A, \
 answer 2, run 1 200E, give 2 1, lend 3 idle 1, run 1 106D, run 1 106E, run 1 2001, answer 2, answer 3, run 1 200A, answer 3, \
 run 1 200E, give 3 1, answer 3"
     );
-    assert_eq!(rt; s.counts()?.as_str(), "ALICE 1 A, ALICE 2 B, ALICE 3 C, commits 3 dials 1 reuses 2 losses 0");
+    assert_eq!(rt;
+        s.counts()?.as_str(),
+        "ALICE 1 A, ALICE 2 B, ALICE 3 C, commits 3 dials 1 reuses 2 losses 0"
+    );
     Ok(())
 }
 
@@ -626,7 +660,7 @@ fn a_session_leaves_the_queue(rt: HostRuntime) -> Result<(), Fail> {
     s.play("start 1 ALICE SECRET; start 2 ALICE SECRET; settle; end 2; end 1")?;
     assert_eq!(rt;
         s.log_from(0)?.as_str(),
-        "answer 1, answer 2, lend 1 dial 1 1, queue 2, run 1 1041, run 1 106D, run 1 106E, run 1 2001, answer 1, leave 2, lost 1 1 left"
+        "answer 1, lend 1 dial 1 1, run 1 1041, run 1 106D, run 1 106E, run 1 2001, answer 1, answer 2, queue 2, leave 2, lost 1 1 left"
     );
     Ok(())
 }
@@ -637,7 +671,9 @@ fn a_conflict_rolls_back(rt: HostRuntime) -> Result<(), Fail> {
         rt.alloc(),
         "cap 2; member 1 1; member 2 1; user ALICE SECRET; row ALICE 1 A",
     )?;
-    s.play("start 1 ALICE SECRET; start 2 ALICE SECRET; settle; sql 1 UPDATE T SET V = 'B' WHERE K = 1; sql 2 UPDATE T SET V = 'C' WHERE K = 1")?;
+    s.play(
+        "start 1 ALICE SECRET; start 2 ALICE SECRET; settle; sql 1 UPDATE T SET V = 'B' WHERE K = 1; sql 2 UPDATE T SET V = 'C' WHERE K = 1",
+    )?;
     s.play("settle; commit 1; settle; commit 2; settle")?;
     assert!(rt;
         s.was_sent(
@@ -645,7 +681,10 @@ fn a_conflict_rolls_back(rt: HostRuntime) -> Result<(), Fail> {
             "0015D0520001000F220C0006114900040005211502001ED00300010018240800FFFFFC71F4F0F0F0F14040404040404040FFFF"
         )?
     );
-    assert_eq!(rt; s.counts()?.as_str(), "ALICE 1 B, commits 1 dials 2 reuses 0 losses 0");
+    assert_eq!(rt;
+        s.counts()?.as_str(),
+        "ALICE 1 B, commits 1 dials 2 reuses 0 losses 0"
+    );
     Ok(())
 }
 
@@ -672,7 +711,10 @@ fn a_register_too_many_ends(rt: HostRuntime) -> Result<(), Fail> {
     s.play("commit 1; settle")?;
     assert!(rt; s.was_sent(1, "0010D0020001000A1233000611490008")?);
     assert_eq!(rt; end_text(s.world.state(1)), "limit registers");
-    assert_eq!(rt; s.log_from(137)?.as_str(), "run 1 200E, error 1 limit, lost 1 1 left, answer 1");
+    assert_eq!(rt;
+        s.log_from(137)?.as_str(),
+        "run 1 200E, error 1 limit, lost 1 1 left, answer 1"
+    );
     Ok(())
 }
 
@@ -696,7 +738,8 @@ fn a_list_is_learned(rt: HostRuntime) -> Result<(), Fail> {
         "cap 2; member 1 1; member 2 0; list 2=5 1=0; user ALICE SECRET",
     )?;
     s.play("start 1 ALICE SECRET; settle; start 2 ALICE SECRET; settle")?;
-    let access = "0033D0020002002D2201000611490000000C112EC7D9D7F0F1F0F1F0000D002FD8E3C4E2D8D3F3F7F0000A00350006119C0025";
+    let access =
+        "0033D0020002002D2201000611490000000C112EC7D9D7F0F1F0F1F0000D002FD8E3C4E2D8D3F3F7F0000A00350006119C0025";
     assert!(rt; s.was_sent(1, access)?);
     assert!(rt; s.was_sent(2, access)?);
     assert_eq!(rt;
@@ -710,7 +753,9 @@ run 2 1041, run 2 106D, run 2 106E, run 2 2001, learn 2, answer 2"
 #[test]
 fn what_a_member_answered_stays(rt: HostRuntime) -> Result<(), Fail> {
     let mut s = scene(rt.alloc(), ONE)?;
-    s.play("start 1 ALICE SECRET; settle; ins 1 1 A; take 1 65536; send 1 65536; act 1 65536; drop 1; back 1 5; settle")?;
+    s.play(
+        "start 1 ALICE SECRET; settle; ins 1 1 A; take 1 65536; send 1 65536; act 1 65536; drop 1; back 1 5; settle",
+    )?;
     assert!(rt; s.was_sent(1, DONE)?);
     s.play("ins 1 2 B; settle")?;
     assert!(rt; s.was_sent(1, REROUTED)?);
@@ -725,7 +770,9 @@ answer 1"
 #[test]
 fn bytes_on_a_dropped_transport_are_never_acted_on(rt: HostRuntime) -> Result<(), Fail> {
     let mut s = scene(rt.alloc(), ONE)?;
-    s.play("start 1 ALICE SECRET; settle; ins 1 1 A; take 1 65536; send 1 65536; down 1; act 1 65536; up 1; act 1 65536")?;
+    s.play(
+        "start 1 ALICE SECRET; settle; ins 1 1 A; take 1 65536; send 1 65536; down 1; act 1 65536; up 1; act 1 65536",
+    )?;
     assert_eq!(rt; s.log_from(7)?.as_str(), "");
     s.play("back 1 1; settle")?;
     assert_eq!(rt;
@@ -738,7 +785,9 @@ fn bytes_on_a_dropped_transport_are_never_acted_on(rt: HostRuntime) -> Result<()
 #[test]
 fn what_cant_be_taken_changes_nothing(rt: HostRuntime) -> Result<(), Fail> {
     let mut s = scene(rt.alloc(), ONE)?;
-    s.play("app 1 000AD0010001; take 2 1; say 1 1; lend 1; dial 1; send 1 1; back 1 1; give 1; cut 1; act 1 1; drop 1; down 2; up 1; take 1 0")?;
+    s.play(
+        "app 1 000AD0010001; take 2 1; say 1 1; lend 1; dial 1; send 1 1; back 1 1; give 1; cut 1; act 1 1; drop 1; down 2; up 1; take 1 0",
+    )?;
     assert_eq!(rt; s.world.happened().len(), 1);
     assert!(rt; s.world.can(&Event::Take { app: 1, n: 1 }));
     assert!(rt; s.world.can(&Event::End { app: 1 }));
