@@ -1,7 +1,9 @@
 -- What is seen of a world, and all that follows from it: this project's own.
-use Rattle.std.specs.Prelude.{ℕ, Bool, if◌then◌else◌, List, [], ◌∷◌, ◌++◌}
+use Rattle.std.specs.Prelude.{ℕ, Bool, true, false, if◌then◌else◌, List, [], ◌∷◌, ◌++◌, Option, Some, None}
 use Rattle.plain_model.specs.Group.{Meaning}
 use Rattle.plain_model.specs.Plain as plain
+use Rattle.gateway_session.specs.declared.need.Need.{Need}
+use Rattle.gateway_session.specs.Session.{need}
 use Rattle.gateway_setup.specs.declared.setup.Setup.{Setup}
 use Rattle.gateway_setup.specs.declared.event.Event.{Event}
 use Rattle.gateway_world.specs.declared.happening.Happening.{Happening}
@@ -60,3 +62,17 @@ ran m event r = if can r.setup event (state_of m r) then with_event m event r el
 abbrev pub ran_all : {S U : Type 0} → Meaning S U → List Event → Record S → Record S
 ran_all m [] r = r
 ran_all m (event ∷ events) r = ran_all m events (ran m event r)
+
+-- ---- what is seen of it
+
+abbrev pub if_named : {A : Type 0} → Bool → A → Option A
+if_named true x = Some x
+if_named false x = None
+
+-- all that an application was sent, if it was named
+abbrev pub sent_to : {S U : Type 0} → State S U → ℕ → Option (List ℕ)
+sent_to z i = if_named (z.app i).named (z.app i).sent
+
+-- what its session needs, if it was named
+abbrev pub need_of : {S U : Type 0} → State S U → ℕ → Option Need
+need_of z i = if_named (z.app i).named (need (z.app i).session)

@@ -1,14 +1,28 @@
-//! The events of members, and all events.
+//! The events of members, and all events by their kinds. Each is one that can be taken, with the number of bytes that really moves.
 
+ghost use Rattle.std.specs.Prelude.{◌≡◌, ◌≤◌, length, OnOk};
+ghost use Rattle.gateway_wires.specs.Line.{flying_of};
+ghost use Rattle.gateway_wires.specs.Wires.{line_of};
+ghost use Rattle.gateway_world.specs.State.{State};
+ghost use Rattle.gateway_world.specs.Events.{after_act, after_event};
+ghost use Rattle.gateway_world.specs.Shows.{ShowsCommon, ShowsOne, FitsMembers, FitsApp, app_in};
+
+use crate::app::App;
+use crate::common::Common;
 use crate::entry::Entry;
-use crate::parts::Parts;
 use gateway_setup::Event;
 use link_ends::NoMemory;
 use plain_model::Group;
 
-impl<G: Group + Drop> Parts<G> {
+impl<G: Group + Drop> Common<G> {
     /// A member acts on the next so many bytes of a transport.
-    fn act(&mut self, transport: u64, count: usize) -> Result<(), NoMemory> {
+    fn act(&mut self, transport: u64, count: usize) -> Result<(), NoMemory>
+        requires { count ≤ length (flying_of (line_of self.old.wires transport)) }
+        ensures setup { self.new.setup ≡ self.old.setup }
+        ensures shows { (z : State G G.Unit) → ShowsCommon self.old.group self.old.wires self.old.pool self.old.log z
+            → OnOk result (ShowsCommon self.new.group self.new.wires self.new.pool self.new.log
+            (after_act G.meaning self.old.setup transport count z).state) }
+    {
         let before = self.wires.ran(transport).len();
         self.wires.act(transport, count, &mut self.group)?;
         for code in &self.wires.ran(transport)[before..] {
@@ -20,31 +34,66 @@ impl<G: Group + Drop> Parts<G> {
         Ok(())
     }
 
-    /// Takes an event, which can be taken, and whose number of bytes really moves.
-    pub(crate) fn take_event(&mut self, event: Event) -> Result<(), NoMemory> {
+    /// An event of a member, or of one of its transports.
+    pub(crate) fn take_member_event(&mut self, event: Event) -> Result<(), NoMemory>
+        requires { FitsMembers self.old.wires event }
+        ensures setup { self.new.setup ≡ self.old.setup }
+        ensures shows { (z : State G G.Unit) → ShowsCommon self.old.group self.old.wires self.old.pool self.old.log z
+            → OnOk result (ShowsCommon self.new.group self.new.wires self.new.pool self.new.log
+            (after_event G.meaning self.old.setup event z).state) }
+    {
         match event {
-            Event::Take { app, n } => self.take(app, n as usize),
-            Event::End { app } => self.end(app),
-            Event::Lend { app } => self.lend(app),
-            Event::Dial { app } => self.dial(app),
-            Event::Send { app, n } => self.send(app, n as usize),
-            Event::Act { transport, n } => self.act(transport, n as usize),
-            Event::Back { app, n } => self.back(app, n as usize),
-            Event::Cut { app } => self.cut(app),
-            Event::Give { app } => self.give(app),
-            Event::Say { app, n } => self.say(app, n as usize),
-            Event::Drop { transport } => {
-                self.wires.drop_line(transport);
-                Ok(())
-            }
-            Event::Down { member } => {
-                self.wires.down(member);
-                Ok(())
-            }
-            Event::Up { member } => {
-                self.wires.up(member);
-                Ok(())
-            }
+            Event::Act { transport, n } => return self.act(transport, n as usize),
+            Event::Drop { transport } => self.wires.drop_line(transport),
+            Event::Down { member } => self.wires.down(member),
+            Event::Up { member } => self.wires.up(member),
+            _ => {}
         }
+        Ok(())
+    }
+
+    /// An event of an application and its session.
+    pub(crate) fn take_app_event(
+        &mut self,
+        number: u32,
+        app: &mut App,
+        event: Event,
+    ) -> Result<(), NoMemory>
+        requires { FitsApp self.old.wires number app.old event }
+        ensures setup { self.new.setup ≡ self.old.setup }
+        ensures shows { (z : State G G.Unit) → ShowsOne number app.old self.old.group self.old.wires self.old.pool self.old.log z
+            → OnOk result (ShowsOne number app.new self.new.group self.new.wires self.new.pool self.new.log
+            (after_event G.meaning self.old.setup event z).state) }
+    {
+        match event {
+            Event::Take { n, .. } => self.take(number, app, n as usize),
+            Event::End { .. } => self.end(number, app),
+            Event::Lend { .. } => self.lend(number, app),
+            Event::Dial { .. } => self.dial(number, app),
+            Event::Send { n, .. } => self.send(number, app, n as usize),
+            Event::Back { n, .. } => self.back(number, app, n as usize),
+            Event::Cut { .. } => self.cut(number, app),
+            Event::Give { .. } => self.give(number, app),
+            Event::Say { n, .. } => self.say(number, app, n as usize),
+            _ => Ok(()),
+        }
+    }
+}
+
+/// The application whose event it is; `None` where it is one of a member.
+pub(crate) fn app_in(event: &Event) -> Option<u32>
+    ensures { result ≡ app_in event.now }
+{
+    match *event {
+        Event::Take { app, .. }
+        | Event::End { app }
+        | Event::Lend { app }
+        | Event::Dial { app }
+        | Event::Send { app, .. }
+        | Event::Back { app, .. }
+        | Event::Cut { app }
+        | Event::Give { app }
+        | Event::Say { app, .. } => Some(app),
+        Event::Act { .. } | Event::Drop { .. } | Event::Down { .. } | Event::Up { .. } => None,
     }
 }

@@ -1,14 +1,16 @@
+ghost use Rattle.std.specs.Prelude.{◌≡◌, ◌-◌, ◌≤◌, [], length, IfOk};
+ghost use Rattle.reply_texts.specs.RdbName.{characters_of};
+ghost use Rattle.gateway_session.specs.Session.{new_session, uncounted};
+ghost use Rattle.gateway_session.specs.Memory.{Runs};
+
 use gateway_session::Session;
 use link_ends::{NoMemory, Octets};
 use reply_texts::RdbName;
 use std::alloc::Global;
 
-/// One more than the greatest number of an application.
-pub(crate) const APPS: usize = 65;
-
 /// An application that was named, with its session.
 #[derive(Drop)]
-pub(crate) struct App {
+pub struct App {
     pub session: Session,
     /// The number of the member whose transport the session holds, if it holds one.
     pub member: u32,
@@ -21,7 +23,12 @@ pub(crate) struct App {
 
 impl App {
     /// It has nothing to send yet.
-    pub(crate) fn new(alloc: Global, number: u32, rdb: &RdbName) -> Result<App, NoMemory> {
+    pub(crate) fn new(alloc: Global, number: u32, rdb: &RdbName) -> Result<App, NoMemory>
+        ensures session { IfOk result (λ app. app.session ≡ Runs (uncounted (new_session number (characters_of rdb.now)))) }
+        ensures bytes { IfOk result (λ app. app.bytes ≡ []) }
+        ensures taken { IfOk result (λ app. app.taken ≡ 0) }
+        ensures sent { IfOk result (λ app. app.sent ≡ []) }
+    {
         Ok(App {
             session: Session::new(alloc, number, rdb)?,
             member: 0,
@@ -32,23 +39,10 @@ impl App {
     }
 
     /// How many bytes it has still to send.
-    pub(crate) fn unread(&self) -> usize {
+    pub(crate) fn unread(&self) -> usize
+        requires { self.now.taken ≤ length self.now.bytes }
+        ensures { result ≡ length self.now.bytes - self.now.taken }
+    {
         self.bytes.len() - self.taken
-    }
-}
-
-/// The application of this number, if it was named.
-pub(crate) fn app_of(apps: &[Option<App>], number: u32) -> Option<&App> {
-    match apps.get(number as usize) {
-        Some(Some(app)) => Some(app),
-        _ => None,
-    }
-}
-
-/// The same, to be changed.
-pub(crate) fn app_mut(apps: &mut [Option<App>], number: u32) -> Option<&mut App> {
-    match apps.get_mut(number as usize) {
-        Some(Some(app)) => Some(app),
-        _ => None,
     }
 }

@@ -1,20 +1,29 @@
-//! The events in which a session asks the pool, and those in which a transport comes and goes.
+//! The events in which a session asks the pool, and those in which a transport comes and goes. Each is one that can be taken.
 
-use crate::app::app_mut;
+ghost use Rattle.std.specs.Prelude.{◌≡◌, ◌≢◌, None, OnOk};
+ghost use Rattle.gateway_session.specs.declared.need.Need.TheVariants as needs;
+ghost use Rattle.gateway_session.specs.Memory.{need_in, held_in, tries_in};
+ghost use Rattle.gateway_world.specs.State.{State};
+ghost use Rattle.gateway_world.specs.Shows.{ShowsOne, lend_call, member_lent};
+ghost use Rattle.gateway_world.specs.Events.{lent_of, after_lend_event, after_dial, after_give, after_cut};
+
+use crate::app::App;
 use crate::asked::ask;
+use crate::common::Common;
 use crate::entry::Entry;
-use crate::parts::Parts;
 use gateway_session::{Lent, LossWhy, Session};
 use link_ends::NoMemory;
 use plain_model::Group;
 use transport_pool::{PoolAnswer, PoolCall};
 
-impl<G: Group + Drop> Parts<G> {
+impl<G: Group + Drop> Common<G> {
     /// The session asks the pool for a transport.
-    pub(crate) fn lend(&mut self, number: u32) -> Result<(), NoMemory> {
-        let Some(app) = app_mut(&mut self.apps, number) else {
-            return Ok(());
-        };
+    pub(crate) fn lend(&mut self, number: u32, app: &mut App) -> Result<(), NoMemory>
+        requires { need_in app.old.session ≡ needs.Lend }
+        ensures setup { self.new.setup ≡ self.old.setup }
+        ensures shows { (z : State G G.Unit) → ShowsOne number app.old self.old.group self.old.wires self.old.pool self.old.log z
+            → OnOk result (ShowsOne number app.new self.new.group self.new.wires self.new.pool self.new.log (after_lend_event number z).state) }
+    {
         let lent = lent_of(self.pool.step(&lend_call(number, &app.session)));
         app.member = member_of(lent);
         app.session.on_lend(lent)?;
@@ -23,10 +32,12 @@ impl<G: Group + Drop> Parts<G> {
     }
 
     /// The session's transport is dialled, where its member is up.
-    pub(crate) fn dial(&mut self, number: u32) -> Result<(), NoMemory> {
-        let Some(app) = app_mut(&mut self.apps, number) else {
-            return Ok(());
-        };
+    pub(crate) fn dial(&mut self, number: u32, app: &mut App) -> Result<(), NoMemory>
+        requires { need_in app.old.session ≡ needs.Dial }
+        ensures setup { self.new.setup ≡ self.old.setup }
+        ensures shows { (z : State G G.Unit) → ShowsOne number app.old self.old.group self.old.wires self.old.pool self.old.log z
+            → OnOk result (ShowsOne number app.new self.new.group self.new.wires self.new.pool self.new.log (after_dial G.meaning self.old.setup number z).state) }
+    {
         let Some(transport) = app.session.held() else {
             return Ok(());
         };
@@ -40,10 +51,12 @@ impl<G: Group + Drop> Parts<G> {
     }
 
     /// The session gives its transport back.
-    pub(crate) fn give(&mut self, number: u32) -> Result<(), NoMemory> {
-        let Some(app) = app_mut(&mut self.apps, number) else {
-            return Ok(());
-        };
+    pub(crate) fn give(&mut self, number: u32, app: &mut App) -> Result<(), NoMemory>
+        requires { need_in app.old.session ≡ needs.Give }
+        ensures setup { self.new.setup ≡ self.old.setup }
+        ensures shows { (z : State G G.Unit) → ShowsOne number app.old self.old.group self.old.wires self.old.pool self.old.log z
+            → OnOk result (ShowsOne number app.new self.new.group self.new.wires self.new.pool self.new.log (after_give number z).state) }
+    {
         let Some(transport) = app.session.held() else {
             return Ok(());
         };
@@ -60,17 +73,21 @@ impl<G: Group + Drop> Parts<G> {
     }
 
     /// The session loses its transport.
-    pub(crate) fn cut(&mut self, number: u32) -> Result<(), NoMemory> {
-        let Some(app) = app_mut(&mut self.apps, number) else {
-            return Ok(());
-        };
+    pub(crate) fn cut(&mut self, number: u32, app: &mut App) -> Result<(), NoMemory>
+        requires { held_in app.old.session ≢ None }
+        ensures setup { self.new.setup ≡ self.old.setup }
+        ensures shows { (z : State G G.Unit) → ShowsOne number app.old self.old.group self.old.wires self.old.pool self.old.log z
+            → OnOk result (ShowsOne number app.new self.new.group self.new.wires self.new.pool self.new.log (after_cut number z).state) }
+    {
         app.session.on_lost(LossWhy::Cut)?;
         ask(number, &mut app.session, &mut self.pool, &mut self.log)
     }
 }
 
 /// What a session asks the pool with.
-fn lend_call(number: u32, session: &Session) -> PoolCall {
+fn lend_call(number: u32, session: &Session) -> PoolCall
+    ensures { result ≡ lend_call number session.now }
+{
     PoolCall::Lend {
         session: number,
         tried: session.tried(),
@@ -79,7 +96,9 @@ fn lend_call(number: u32, session: &Session) -> PoolCall {
 }
 
 /// What a session is told of an answer. No lend is answered `Handed` or `Nothing`.
-fn lent_of(answer: PoolAnswer) -> Lent {
+fn lent_of(answer: PoolAnswer) -> Lent
+    ensures { result ≡ lent_of answer }
+{
     match answer {
         PoolAnswer::Idle { number, member } => Lent::Idle { number, member },
         PoolAnswer::Dial { number, member } => Lent::Dial { number, member },
@@ -90,7 +109,9 @@ fn lent_of(answer: PoolAnswer) -> Lent {
 }
 
 /// The member of the transport that is lent, 0 where none is.
-fn member_of(lent: Lent) -> u32 {
+fn member_of(lent: Lent) -> u32
+    ensures { result ≡ member_lent lent }
+{
     match lent {
         Lent::Idle { member, .. } | Lent::Dial { member, .. } => member,
         Lent::Queue | Lent::NoneLeft | Lent::Worn => 0,

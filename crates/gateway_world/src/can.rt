@@ -1,7 +1,7 @@
 //! Which events can be taken, and how many bytes they move.
 
-use crate::app::{App, app_of};
-use crate::parts::Parts;
+use crate::app::App;
+use crate::common::Common;
 use gateway_session::Need;
 use gateway_setup::Event;
 use plain_model::Group;
@@ -9,9 +9,9 @@ use plain_model::Group;
 /// How many bytes a session takes of its application at once at most.
 pub(crate) const MOST_TAKEN: u32 = 65_536;
 
-impl<G: Group + Drop> Parts<G> {
-    /// Whether an event can be taken.
-    pub(crate) fn can(&self, event: &Event) -> bool {
+impl<G: Group + Drop> Common<G> {
+    /// Whether an event of a member can be taken.
+    pub(crate) fn can_members(&self, event: &Event) -> bool {
         match *event {
             Event::Act { transport, n } => {
                 n >= 1 && self.wires.flying(transport) > 0 && self.wires.stands(transport)
@@ -19,23 +19,12 @@ impl<G: Group + Drop> Parts<G> {
             Event::Drop { transport } => self.wires.stands(transport),
             Event::Down { member } => self.setup.list.has(member) && !self.wires.is_down(member),
             Event::Up { member } => self.setup.list.has(member) && self.wires.is_down(member),
-            Event::Take { app, .. }
-            | Event::End { app }
-            | Event::Lend { app }
-            | Event::Dial { app }
-            | Event::Send { app, .. }
-            | Event::Back { app, .. }
-            | Event::Cut { app }
-            | Event::Give { app }
-            | Event::Say { app, .. } => match app_of(&self.apps, app) {
-                Some(named) => self.can_in(event, app, named),
-                None => false,
-            },
+            _ => false,
         }
     }
 
-    /// The same of an event of an application that was named.
-    fn can_in(&self, event: &Event, number: u32, app: &App) -> bool {
+    /// Whether an event of an application that was named can be taken.
+    pub(crate) fn can_app(&self, event: &Event, number: u32, app: &App) -> bool {
         let need = app.session.need();
         match *event {
             Event::Take { n, .. } => n >= 1 && matches!(need, Need::App) && app.unread() > 0,
@@ -74,67 +63,51 @@ impl<G: Group + Drop> Parts<G> {
         }
     }
 
-    /// An event that can be taken, with the number of bytes that it really moves.
-    pub(crate) fn really(&self, event: &Event) -> Event {
+    /// An event of a member, with the number of bytes that it really moves.
+    pub(crate) fn really_members(&self, event: &Event) -> Event {
         match *event {
-            Event::Take { app, n } => Event::Take {
-                app,
-                n: least(n.min(MOST_TAKEN), self.unread(app)),
-            },
-            Event::Send { app, n } => Event::Send {
-                app,
-                n: least(n, self.sendable(app)),
-            },
             Event::Act { transport, n } => Event::Act {
                 transport,
                 n: least(n, self.wires.flying(transport)),
-            },
-            Event::Back { app, n } => Event::Back {
-                app,
-                n: least(n, self.readable(app)),
-            },
-            Event::Say { app, n } => Event::Say {
-                app,
-                n: least(n, self.sayable(app)),
             },
             other => other,
         }
     }
 
-    /// How many bytes an application has still to send.
-    fn unread(&self, app: u32) -> usize {
-        match app_of(&self.apps, app) {
-            Some(app) => app.unread(),
-            None => 0,
+    /// An event of an application, with the number of bytes that it really moves.
+    pub(crate) fn really_app(&self, event: &Event, named: &App) -> Event {
+        match *event {
+            Event::Take { app, n } => Event::Take {
+                app,
+                n: least(n.min(MOST_TAKEN), named.unread()),
+            },
+            Event::Send { app, n } => Event::Send {
+                app,
+                n: least(n, self.sendable(named)),
+            },
+            Event::Back { app, n } => Event::Back {
+                app,
+                n: least(n, self.readable(named)),
+            },
+            Event::Say { app, n } => Event::Say {
+                app,
+                n: least(n, named.session.to_say().len()),
+            },
+            other => other,
         }
     }
 
-    /// How many bytes are still to be said to it.
-    fn sayable(&self, app: u32) -> usize {
-        match app_of(&self.apps, app) {
-            Some(app) => app.session.to_say().len(),
-            None => 0,
-        }
-    }
-
-    /// The transport that its session holds.
-    fn held(&self, app: u32) -> Option<u64> {
-        app_of(&self.apps, app)?.session.held()
-    }
-
-    /// How many bytes its session can send to its member: none on a transport that the member has dropped.
-    fn sendable(&self, app: u32) -> usize {
-        match (app_of(&self.apps, app), self.held(app)) {
-            (Some(app), Some(transport)) if !self.wires.is_dropped(transport) => {
-                app.session.to_send().len()
-            }
+    /// How many bytes a session can send to its member: none on a transport that the member has dropped.
+    fn sendable(&self, app: &App) -> usize {
+        match app.session.held() {
+            Some(transport) if !self.wires.is_dropped(transport) => app.session.to_send().len(),
             _ => 0,
         }
     }
 
-    /// How many bytes its session can read of its member.
-    fn readable(&self, app: u32) -> usize {
-        match self.held(app) {
+    /// How many bytes a session can read of its member.
+    fn readable(&self, app: &App) -> usize {
+        match app.session.held() {
             Some(transport) => self.wires.coming(transport).len(),
             None => 0,
         }

@@ -7,11 +7,11 @@ mod app;
 mod asked;
 mod calling;
 mod can;
+mod common;
 mod entry;
 mod happening;
 mod moving;
 mod order;
-mod parts;
 mod world;
 
 pub use entry::{Entry, EntryList};

@@ -2,7 +2,7 @@
 
 use crate::app::App;
 use crate::can::MOST_TAKEN;
-use crate::parts::Parts;
+use crate::common::Common;
 use gateway_session::Need;
 use gateway_setup::Event;
 use plain_model::Group;
@@ -19,10 +19,10 @@ enum Kind {
     Take,
 }
 
-impl<G: Group + Drop> Parts<G> {
+impl<G: Group + Drop> Common<G> {
     /// The first event that can be taken: a member acts on the transport of the lowest number; else the session of the lowest
     /// number among those whose kind of event comes first.
-    pub(crate) fn next_event(&self) -> Option<Event> {
+    pub(crate) fn next_event(&self, apps: &[Option<App>]) -> Option<Event> {
         if let Some(transport) = self.wires.first_flying() {
             return Some(Event::Act {
                 transport,
@@ -30,7 +30,7 @@ impl<G: Group + Drop> Parts<G> {
             });
         }
         let mut first = None;
-        for (number, app) in self.apps.iter().enumerate() {
+        for (number, app) in apps.iter().enumerate() {
             if let Some(app) = app {
                 first = self.earlier(first, number as u32, app);
             }
@@ -53,7 +53,7 @@ impl<G: Group + Drop> Parts<G> {
         {
             return first;
         }
-        if self.can(&event) {
+        if self.can_app(&event, number, app) {
             Some((kind, event))
         } else {
             first
