@@ -1,5 +1,5 @@
 -- How transports are kept in code. No standard speaks of it: this is this project's own.
-use Rattle.std.specs.Prelude.{◌≡◌, ℕ, ◌<◌, ◌≤◌, Bool, false, ◌||◌, ◌&&◌, ◌==◌, nat_lt, List, map, drop, length, slice_get}
+use Rattle.std.specs.Prelude.{◌≡◌, ℕ, ◌<◌, ◌≤◌, Bool, true, false, ◌||◌, ◌&&◌, ◌==◌, nat_lt, List, map, drop, length, slice_get}
 use Rattle.std.specs.Prelude.{Option, Some, None, option_map, slice_index_or, if◌then◌else◌}
 use Rattle.std.specs.List.{AllByRecursion}
 use Rattle.std.specs.Ordering.{nat_cmp}
@@ -77,8 +77,8 @@ is_in flying member number = is_in_set (slice_get flying member) number
 pub record AreWires {U : Type 0} (lines : List (Option (Dialled U))) (fell : List ℕ) (flying : List (BTreeSet ℕ)) (count : ℕ) : Type 0 where
   pub all_members : length flying ≡ 33
   pub dialled : AllByRecursion (OfDialled (WasDialled count)) lines
-  pub flying : (member number : ℕ) → member < 33
-      → is_in flying member number ≡ flies_to member (slice_index_or (map (option_map (seen_line fell)) lines) number None)
+  pub flies : (member number : ℕ) → member < 33
+      → is_in flying member number ≡ flies_to member (option_map (seen_line fell) (slice_index_or lines number None))
 
 -- ---- the numbers of those with bytes on their way
 
@@ -98,8 +98,12 @@ pub record Sorts (member number : ℕ) (flies : Bool) (old new : List (BTreeSet 
   pub others : (another other : ℕ) → (another == member && other == number) ≡ false → is_in new another other ≡ is_in old another other
 
 -- a transport that has no bytes on its way leaves them
+abbrev pub SortsOut : Bool → ℕ → ℕ → List (BTreeSet ℕ) → List (BTreeSet ℕ) → Type 0
+SortsOut true member number old new = Sorts member number false old new
+SortsOut false member number old new = new ≡ old
+
 abbrev pub LeavesAtRest : {U : Type 0} → ℕ → LineState U → List (BTreeSet ℕ) → List (BTreeSet ℕ) → Type 0
-LeavesAtRest number x old new = if length x.flying == 0 then Sorts x.member number false old new else (old ≡ new)
+LeavesAtRest number x old new = SortsOut (length x.flying == 0) x.member number old new
 
 abbrev pub lower : Option ℕ → Option ℕ → Option ℕ
 lower None other = other

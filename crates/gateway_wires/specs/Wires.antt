@@ -25,7 +25,7 @@ abbrev pub on_line : {U : Type 0} → ℕ → (LineState U → LineState U) → 
 on_line number change w = record w { lines = slice_set w.lines number (option_map change (line_of w number)) }
 
 -- lines for all numbers up to this one
-abbrev pub with_room : {U : Type 0} → ℕ → List (Option (LineState U)) → List (Option (LineState U))
+abbrev pub with_room : {A : Type 0} → ℕ → List (Option A) → List (Option A)
 with_room number lines = lines ++ replicate (suc number - length lines) None
 
 -- the transport of this number is dialled

@@ -1,4 +1,4 @@
-ghost use Rattle.std.specs.Prelude.{◌≡◌, ◌≤◌, ◌<◌, length, option_map, option_copied, IfOk, OnOk, OnErr, None, true, false};
+ghost use Rattle.std.specs.Prelude.{◌≡◌, ◌≤◌, ◌<◌, length, slice_index_or, option_map, option_copied, IfOk, OnOk, OnErr, None, true, false};
 ghost use Rattle.server_list.specs.Tried.{is_member};
 ghost use Rattle.gateway_wires.specs.Inside.{has_dropped, AreNone, Sorts, AreSame, LeavesAtRest, IsLowest, lower};
 ghost use Rattle.gateway_wires.specs.Line.{dialled, with_sent, with_acted, with_read, with_dropped, is_dropped, stands, flying_of, coming_of, ran_of, wire};
@@ -110,19 +110,11 @@ impl<G: Group> Wires<G> {
         Ok(())
     }
 
-    /// The transport of this number, if it was dialled.
-    fn line(&self, number: u64) -> Option<&Line<G>> {
-        match self.lines.get(number as usize) {
-            Some(Some(line)) => Some(line),
-            _ => None,
-        }
-    }
-
     /// Whether the member has dropped the transport of this number.
     pub fn is_dropped(&self, number: u64) -> bool
         ensures { result ≡ is_dropped (line_of self.now number) }
     {
-        match self.line(number) {
+        match line_at(&self.lines, number) {
             Some(line) => has_dropped(&self.fell, line),
             None => false,
         }
@@ -132,7 +124,7 @@ impl<G: Group> Wires<G> {
     pub fn stands(&self, number: u64) -> bool
         ensures { result ≡ stands (line_of self.now number) }
     {
-        match self.line(number) {
+        match line_at(&self.lines, number) {
             Some(line) => !has_dropped(&self.fell, line),
             None => false,
         }
@@ -142,7 +134,7 @@ impl<G: Group> Wires<G> {
     pub fn wire(&self, number: u64) -> Option<&Wire>
         ensures { option_copied result ≡ option_map wire (line_of self.now number) }
     {
-        match self.line(number) {
+        match line_at(&self.lines, number) {
             Some(line) => Some(line.wire()),
             None => None,
         }
@@ -169,7 +161,7 @@ impl<G: Group> Wires<G> {
     pub fn flying(&self, number: u64) -> usize
         ensures { result ≡ length (flying_of (line_of self.now number)) }
     {
-        match self.line(number) {
+        match line_at(&self.lines, number) {
             Some(line) => line.flying(),
             None => 0,
         }
@@ -200,7 +192,7 @@ impl<G: Group> Wires<G> {
     pub fn ran(&self, number: u64) -> &[u16]
         ensures { result.now ≡ ran_of (line_of self.now number) }
     {
-        match self.line(number) {
+        match line_at(&self.lines, number) {
             Some(line) => line.ran(),
             None => &[],
         }
@@ -210,7 +202,7 @@ impl<G: Group> Wires<G> {
     pub fn coming(&self, number: u64) -> &[u8]
         ensures { result.now ≡ coming_of (line_of self.now number) }
     {
-        match self.line(number) {
+        match line_at(&self.lines, number) {
             Some(line) => line.coming(),
             None => &[],
         }
@@ -258,6 +250,16 @@ fn no_flying(alloc: Global) -> Result<Vec<BTreeSet<u64>>, NoMemory>
         flying.push(BTreeSet::new(alloc))?;
     }
     Ok(flying)
+}
+
+/// The transport of this number, if it was dialled.
+fn line_at<G: Group>(lines: &[Option<Line<G>>], number: u64) -> Option<&Line<G>>
+    ensures { option_copied result ≡ slice_index_or lines.now number None }
+{
+    match lines.get(number as usize) {
+        Some(Some(line)) => Some(line),
+        _ => None,
+    }
 }
 
 /// Whether a transport is dropped, by itself or with its member.

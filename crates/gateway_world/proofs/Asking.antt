@@ -1,9 +1,11 @@
 -- A session that was asked after a step, and the world then.
-use Rattle.std.proofs.Common.{◌≡◌, ◌≤◌, ℕ, true, List, ◌++◌, drop, length, refl, sym, ap, subst, ◌∙◌}
+use Rattle.std.proofs.Common.{◌≡◌, ◌≤◌, ℕ, true, List, ◌++◌, drop, length, Result, Ok, Err, refl, sym, ap, subst, ◌∙◌}
+use Rattle.std.specs.Prelude.{OnOk}
+use Rattle.plain_model.specs.Plain.{put}
 use Rattle.plain_model.proofs.Puts.{put_same}
 use Rattle.transport_pool.specs.State.{PoolState}
 use Rattle.gateway_session.specs.Session.{Session, uncounted}
-use Rattle.gateway_session.specs.Memory.{Runs, without_list, without_word, without_loss}
+use Rattle.gateway_session.specs.Memory.{Runs, step, without_list, without_word, without_loss}
 use Rattle.gateway_session.specs.Memory as memory
 use Rattle.gateway_wires.specs.Wires.{WiresState}
 use Rattle.gateway_world.specs.State.{State, AppState}
@@ -55,3 +57,29 @@ shows_asked i s x shared wires pool pool' log log' stepped z done keeps holds c 
         ∙ sym (done.log_is ∙ ap (λ (st : memory.State). log ++ entries_asked i pool (told_in st)) done.stepped_is);
   };
 }
+
+-- the same, where memory may have run out while it was asked
+pub asked_ok : {S U A E : Type 0} (i : ℕ) (s : Session) (x : App) (shared : S) (wires : WiresState U) (pool pool' : PoolState) (log log' : List Entry)
+    (stepped : memory.State) (z : State S U) (result : Result A E) → stepped ≡ Runs (uncounted s)
+    → OnOk result (x.session ≡ without_loss (without_word (without_list stepped)))
+    → OnOk result (pool' ≡ pool_asked (told_in stepped) pool)
+    → OnOk result (log' ≡ log ++ entries_asked i pool (told_in stepped))
+    → Keeps x (z.app i) → HoldsOf x.member s.held → ShowsCommon shared wires pool log z
+    → OnOk result (ShowsOne i x shared wires pool' log' (asking i s z))
+asked_ok i s x shared wires pool pool' log log' stepped z (Err e) is session pool_is log_is keeps holds c = tt
+asked_ok i s x shared wires pool pool' log log' stepped z (Ok a) is session pool_is log_is keeps holds c =
+    shows_asked i s x shared wires pool pool' log log' stepped z
+    (record { stepped_is = is; session = session; pool_is = pool_is; log_is = log_is }) keeps holds c
+
+-- a step of a session that runs
+pub stepped_so : (f : Session → Session) (before : memory.State) (s : Session) → before ≡ Runs (uncounted s)
+    → uncounted (f (uncounted s)) ≡ uncounted (f s) → step f before ≡ Runs (uncounted (f s))
+stepped_so f before s is alike = ap (step f) is ∙ ap Runs alike
+
+-- what is put at a place is kept there
+pub keeps_put : {S U : Type 0} (i : ℕ) (x : App) (a : AppState) (z : State S U) → Keeps x a → Keeps x (put z.app i a i)
+keeps_put i x a z keeps = subst (λ (b : AppState). Keeps x b) (sym (put_same z.app i a)) keeps
+
+-- of an application that is shown
+pub keeps_of : (x : App) (a : AppState) → ShowsNamed x a → Keeps x a
+keeps_of x a shows = record { named = shows.named; taken = shows.taken; unread = shows.unread; sent = shows.sent }

@@ -1,3 +1,4 @@
 pub mod Uncounted
 pub mod Holding
 pub mod Asking
+pub mod Moving

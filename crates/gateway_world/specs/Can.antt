@@ -1,9 +1,8 @@
 -- Which events can be taken, and how many bytes they move: this project's own.
-use Rattle.std.specs.Prelude.{ℕ, ◌==◌, Bool, true, false, not, ◌&&◌, ◌||◌, nat_le, min, if◌then◌else◌, List, [], ◌∷◌, length, Option, Some, None}
+use Rattle.std.specs.Prelude.{ℕ, ◌==◌, Bool, true, false, not, ◌&&◌, ◌||◌, nat_le, min, if◌then◌else◌, List, [], ◌∷◌, length, Option, Some, None, is_some}
 use Rattle.server_list.specs.Lists.{is_listed}
 use Rattle.transport_pool.specs.State.{is_waiting}
 use Rattle.transport_pool.specs.Steps.{would_wait}
-use Rattle.requester_core.specs.Talk.{Talking}
 use Rattle.gateway_session.specs.declared.need.Need.{Need}
 use Rattle.gateway_session.specs.declared.need.Need.TheVariants as need
 use Rattle.gateway_session.specs.declared.held.Held.{Held}
@@ -55,14 +54,10 @@ needs is_so i z = (z.app i).named && is_so (session.need (session_of z i))
 
 -- ---- transports
 
--- the transport that a session holds, if it is dialled
-abbrev pub has_talk : Option Talking → Bool
-has_talk None = false
-has_talk (Some talking) = true
-
-abbrev pub has_dialled : Option Held → Bool
-has_dialled None = false
-has_dialled (Some held) = has_talk held.talk
+-- the transport that is held was dialled
+abbrev pub has_dialled : {S U : Type 0} → Option Held → State S U → Bool
+has_dialled None z = false
+has_dialled (Some held) z = is_some (z.line held.number)
 
 -- answered bytes are unread, or the member has dropped the transport
 abbrev pub can_read : {S U : Type 0} → Option Held → State S U → Bool
@@ -83,7 +78,7 @@ can setup (event.Dial app) z = needs is_dial app z
 can setup (event.Send app n) z = nat_le 1 n && needs is_send app z
 can setup (event.Act transport n) z = nat_le 1 n && is_flying (z.line transport)
 can setup (event.Back app n) z = nat_le 1 n && (needs is_back app z && can_read (session_of z app).held z)
-can setup (event.Cut app) z = (z.app app).named && has_dialled (session_of z app).held
+can setup (event.Cut app) z = (z.app app).named && has_dialled (session_of z app).held z
 can setup (event.Drop transport) z = stands (z.line transport)
 can setup (event.Give app) z = needs is_give app z
 can setup (event.Say app n) z = nat_le 1 n && needs is_say app z

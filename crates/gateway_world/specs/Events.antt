@@ -143,7 +143,7 @@ module _ {S U : Type 0} (m : Meaning S U) (setup : Setup) where
   after_act_on number count None z = quietly z
   after_act_on number count (Some x) z = record {
     state =
-        noting (map (entry.Run number) (codes_run m count x z.shared))
+        noting (map (λ code. entry.Run number code) (codes_run m count x z.shared))
         (with_line number (Some (acted_by count (acting m count x z.shared).conversation x))
         (record z { shared = (acting m count x z.shared).shared }));
     told = each_run (run_by z (z.place number)) (codes_run m count x z.shared);

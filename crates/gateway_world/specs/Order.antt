@@ -1,5 +1,5 @@
 -- In which order a world is settled: this project's own.
-use Rattle.std.specs.Prelude.{ℕ, suc, Bool, List, [], ◌∷◌, ◌++◌, map, find, Option, Some, None}
+use Rattle.std.specs.Prelude.{ℕ, zero, suc, Bool, List, [], ◌∷◌, ◌++◌, map, find, Option, Some, None}
 use Rattle.std.specs.List.{range_with_len}
 use Rattle.plain_model.specs.Group.{Meaning}
 use Rattle.gateway_setup.specs.declared.setup.Setup.{Setup}
@@ -55,5 +55,5 @@ settled_by m None r go_on = record { world = r; count = 0 }
 settled_by m (Some event) r go_on = one_more (go_on (with_event m event r))
 
 abbrev pub settled : {S U : Type 0} → Meaning S U → ℕ → Record S → Settled S
-settled m 0 r = record { world = r; count = 0 }
+settled m zero r = record { world = r; count = 0 }
 settled m (suc budget) r = settled_by m (next_event r.setup (state_of m r)) r (settled m budget)
