@@ -1,8 +1,8 @@
 -- Whose transport a session holds after an input: the one that it held, or none.
-use Rattle.std.proofs.Common.{◌≡◌, ℕ, ◌==◌, Bool, true, false, if◌then◌else◌, List, [], ◌∷◌, drop, eqb, Option, Some, None, refl}
+use Rattle.std.proofs.Common.{◌≡◌, ℕ, ◌==◌, Bool, true, false, if◌then◌else◌, List, [], ◌∷◌, drop, eqb, Option, Some, None, refl, sym, subst}
 use Rattle.unit_segments.specs.declared.command.Command.{Command}
 use Rattle.unit_segments.specs.declared.stripped.Stripped.{Stripped}
-use Rattle.plain_model.specs.Core.{Core, After, LimitKind, Reply}
+use Rattle.plain_model.specs.Core.{Core, After, LimitKind, Reply, Numbers}
 use Rattle.plain_model.specs.Core as core
 use Rattle.plain_model.specs.Begun.{Reading, begun}
 use Rattle.requester_core.specs.declared.got.Got.{Got}
@@ -10,6 +10,9 @@ use Rattle.requester_core.specs.declared.got.Got.TheVariants as got
 use Rattle.requester_core.specs.Talk.{Talking}
 use Rattle.unit_ledger.specs.declared.outcome.Outcome.{Outcome}
 use Rattle.session_core.specs.Incoming.{with_piece, next_of, without_next}
+use Rattle.gateway_session.specs.declared.loss.Lent.{Lent}
+use Rattle.gateway_session.specs.declared.loss.Lent.TheVariants as lent
+use Rattle.gateway_session.specs.Members.{LendsMember}
 use Rattle.gateway_session.specs.declared.loss.LossWhy.{LossWhy}
 use Rattle.gateway_session.specs.declared.loss.LossWhy.TheVariants as why
 use Rattle.gateway_session.specs.declared.loss.ErrorWord.{ErrorWord}
@@ -17,10 +20,10 @@ use Rattle.gateway_session.specs.declared.held.Held.{Held}
 use Rattle.gateway_session.specs.Session.{Session}
 use Rattle.gateway_session.specs.Told.{with_outcome, end_outcome, owed_outcome}
 use Rattle.gateway_session.specs.Steps.{with_word, begun_with, begun_by, begin_next, with_after, going_on, going_by, set_out_on, awaits_chain, said_by}
-use Rattle.gateway_session.specs.Steps.{lost_by_held, with_limit, dialled_by, sent_by_talk, sent_by_held, with_list, with_accepted, with_answered}
+use Rattle.gateway_session.specs.Steps.{lost_by_held, with_none_left, with_limit, after_lend, dialled_by, sent_by_talk, sent_by_held, with_list, with_accepted, with_answered}
 use Rattle.gateway_session.specs.Steps.{with_whole, passes_limit, with_release, untried, got_by, back_by, got_on, talked_on}
 use Rattle.gateway_session.specs.Steps.{after_app, after_dialled, after_sent, after_back, after_given, after_said, after_lost, after_app_end}
-use Rattle.gateway_world.specs.Shows.{HoldsOf}
+use Rattle.gateway_world.specs.Shows.{HoldsOf, member_lent}
 
 word_keeps : (m : ℕ) (error : Option ErrorWord) (s : Session) → HoldsOf m s.held → HoldsOf m (with_word error s).held
 word_keeps m None s h = h
@@ -149,3 +152,13 @@ say_keeps m count s h = said_keeps m (drop count s.to_say) s h
 pub end_keeps : (m : ℕ) (failed : Bool) (s : Session) → HoldsOf m s.held → HoldsOf m (after_app_end failed s).held
 unfolding after_app_end
 end_keeps m failed s h = lose_keeps m why.Left s h
+
+-- what is lent is held from then on
+pub lent_keeps : (given : Lent) (s : Session) → s.held ≡ None → LendsMember given → HoldsOf (member_lent given) (after_lend given s).held
+unfolding after_lend
+lent_keeps (lent.Idle number member) s none is = (refl, is)
+lent_keeps (lent.Dial number member) s none is = (refl, is)
+lent_keeps lent.Queue s none is = rw none tt
+lent_keeps lent.NoneLeft s none is =
+    outcome_keeps 0 _ (with_none_left s) (word_keeps 0 _ _ (after_keeps 0 _ s (subst (λ (h : Option Held). HoldsOf 0 h) (sym none) tt)))
+lent_keeps lent.Worn s none is = limit_keeps 0 Numbers s (subst (λ (h : Option Held). HoldsOf 0 h) (sym none) tt)

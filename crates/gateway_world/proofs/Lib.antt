@@ -2,3 +2,5 @@ pub mod Uncounted
 pub mod Holding
 pub mod Asking
 pub mod Moving
+pub mod Saying
+pub mod Calling
