@@ -4,3 +4,5 @@ pub mod Asking
 pub mod Moving
 pub mod Saying
 pub mod Calling
+pub mod Lines
+pub mod Sending
