@@ -6,3 +6,4 @@ pub mod Saying
 pub mod Calling
 pub mod Lines
 pub mod Sending
+pub mod Dialling
