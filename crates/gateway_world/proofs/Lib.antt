@@ -7,3 +7,4 @@ pub mod Calling
 pub mod Lines
 pub mod Sending
 pub mod Dialling
+pub mod Others
