@@ -41,8 +41,8 @@ module _ {S U A E : Type 0} (i : ℕ) (x : App) (shared : S) (wires : WiresState
   shows_lend answer one called none member is session pool_is log_is =
       let a = session_of z i in
       let called_so : record { state = called_pool; answer = answer } ≡ pool_step z.pool (lend_call i (Runs (uncounted a))) =
-          called ∙ ap (λ (s : memory.State). pool_step pool (lend_call i s)) one.app.session
-          ∙ ap (λ (p : PoolState). pool_step p (lend_call i (Runs (uncounted a)))) (sym one.common.pool_is) in
+      called ∙ ap (λ (s : memory.State). pool_step pool (lend_call i s)) one.app.session
+      ∙ ap (λ (p : PoolState). pool_step p (lend_call i (Runs (uncounted a)))) (sym one.common.pool_is) in
       subst (λ (done : Stepped). OnOk result (ShowsOne i (record x { session = after; member = member_lent (lent_of answer) }) shared wires pool' log'
       (after_lend_by i done z).state)) called_so
       (asked_ok i (after_lend (lent_of answer) a) (record x { session = after; member = member_lent (lent_of answer) }) shared wires called_pool pool'
@@ -75,9 +75,9 @@ module _ {S U A E : Type 0} (i : ℕ) (x : App) (shared : S) (wires : WiresState
       by_held None there member = absurd (none-some number (sym there))
       by_held (Some h) there member =
           let called_so : record { state = called_pool; answer = answer } ≡ pool_step z.pool (call.GiveBack h.number h.member) =
-              called ∙ ap (λ (n : ℕ). pool_step pool (call.GiveBack n x.member)) (same_Some there)
-              ∙ ap (λ (m : ℕ). pool_step pool (call.GiveBack h.number m)) (sym member.0)
-              ∙ ap (λ (p : PoolState). pool_step p (call.GiveBack h.number h.member)) (sym one.common.pool_is) in
+          called ∙ ap (λ (n : ℕ). pool_step pool (call.GiveBack n x.member)) (same_Some there)
+          ∙ ap (λ (m : ℕ). pool_step pool (call.GiveBack h.number m)) (sym member.0)
+          ∙ ap (λ (p : PoolState). pool_step p (call.GiveBack h.number h.member)) (sym one.common.pool_is) in
           subst (λ (done : Stepped). OnOk result (ShowsOne i (record x { session = after }) shared wires pool' log' (after_give_by i h.number done z).state))
           called_so
           (asked_ok i (after_given (session_of z i)) (record x { session = after }) shared wires called_pool pool' (log ++ entry.Give i number ∷ []) log'

@@ -71,8 +71,8 @@ module _ {S U A E : Type 0} (m : Meaning S U) (setup : Setup) (i : ℕ) (x : App
           let goes = stepping i [] (after_dialled true (session_of z i)) (with_dialled m setup i h z) in
           let line : ℕ → LineState U = λ k. dialled m k (list_of setup.sent_lists k) in
           let c = shows_dialled shared wires wires' pool log z h.number (line h.member) one.common
-              (wires_is ∙ ap (λ (n : ℕ). kept.with_line n (line x.member) wires) (same_Some there)
-              ∙ ap (λ (k : ℕ). kept.with_line h.number (line k) wires) (sym member.0)) in
+          (wires_is ∙ ap (λ (n : ℕ). kept.with_line n (line x.member) wires) (same_Some there)
+          ∙ ap (λ (k : ℕ). kept.with_line h.number (line k) wires) (sym member.0)) in
           subst (λ (b : Bool). Comes wires' (if b then fails else goes).state) (sym up ∙ down_is h one member)
           (asked_ok i (after_dialled true (session_of z i)) (record x { session = after }) shared wires' pool pool' log log' stepped
           (with_dialled m setup i h z) result

@@ -47,8 +47,14 @@ module _ {S U A E : Type 0} (i : ℕ) (x : App) (shared : S) (wires : WiresState
         sent = one.app.sent;
       }))
       (app_keeps x.member (take count a.unread) a.session one.app.member)
-      (record { shared_is = one.common.shared_is; each_line = one.common.each_line; down_size = one.common.down_size;
-        each_member = one.common.each_member; pool_is = one.common.pool_is; log_is = one.common.log_is })
+      (record {
+        shared_is = one.common.shared_is;
+        each_line = one.common.each_line;
+        down_size = one.common.down_size;
+        each_member = one.common.each_member;
+        pool_is = one.common.pool_is;
+        log_is = one.common.log_is;
+      })
 
   -- Cut
   pub shows_cut : ShowsOne i x shared wires pool log z → stepped ≡ step (after_lost why.Cut) x.session → Asks

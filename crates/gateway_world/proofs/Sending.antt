@@ -49,8 +49,8 @@ module _ {S U A E : Type 0} (i : ℕ) (x : App) (shared : S) (wires wires' : Wir
       by_held (Some h) there =
           let piece = take count (coming_of (z.line h.number)) in
           let piece_is : take count (coming_of (line_of wires number)) ≡ piece =
-              ap (λ (n : ℕ). take count (coming_of (line_of wires n))) (same_Some there)
-              ∙ ap (λ (l : _). take count (coming_of l)) (sym (one.common.each_line h.number)) in
+          ap (λ (n : ℕ). take count (coming_of (line_of wires n))) (same_Some there)
+          ∙ ap (λ (l : _). take count (coming_of l)) (sym (one.common.each_line h.number)) in
           asked_ok i (after_back piece (session_of z i)) (record x { session = after }) shared wires' pool pool' log log' stepped
           (on_line h.number (with_read count) z) result
           (is ∙ ap (λ (bytes : List ℕ). step (after_back bytes) x.session) piece_is
@@ -76,7 +76,7 @@ module _ {S U A E : Type 0} (i : ℕ) (x : App) (shared : S) (wires wires' : Wir
           let lost = stepping i [] (after_lost why.Fault (session_of z i)) z in
           let piece = take count (sending_by_held (Some h)) in
           let goes = stepping i (sends (session_of z i) (after_sent count (session_of z i))) (after_sent count (session_of z i))
-              (on_line h.number (with_sent piece) z) in
+          (on_line h.number (with_sent piece) z) in
           subst (λ (b : Bool). Comes wires (if b then lost else goes).state) (sym dropped ∙ dropped_is h one (same_Some there))
           (asked_ok i (after_lost why.Fault (session_of z i)) (record x { session = after }) shared wires pool pool' log log' stepped z result
           (is ∙ stepped_so (after_lost why.Fault) x.session (session_of z i) one.app.session (after_lost_uncounted why.Fault (session_of z i)))
@@ -99,7 +99,7 @@ module _ {S U A E : Type 0} (i : ℕ) (x : App) (shared : S) (wires wires' : Wir
           let lost = stepping i [] (after_lost why.Fault (session_of z i)) z in
           let piece = take count (sending_by_held (Some h)) in
           let goes = stepping i (sends (session_of z i) (after_sent count (session_of z i))) (after_sent count (session_of z i))
-              (on_line h.number (with_sent piece) z) in
+          (on_line h.number (with_sent piece) z) in
           subst (λ (b : Bool). Comes wires' (if b then lost else goes).state) (sym standing ∙ dropped_is h one (same_Some there))
           (asked_ok i (after_sent count (session_of z i)) (record x { session = after }) shared wires' pool pool' log log' stepped
           (on_line h.number (with_sent piece) z) result

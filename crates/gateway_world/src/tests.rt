@@ -799,3 +799,55 @@ fn what_cant_be_taken_changes_nothing(rt: HostRuntime) -> Result<(), Fail> {
     assert_eq!(rt; s.world.first().commits(), 0);
     Ok(())
 }
+
+#[test]
+fn faults_are_answered(rt: HostRuntime) -> Result<(), Fail> {
+    let alloc = rt.alloc();
+    let rows = [
+        (
+            "0005D001000100041041",
+            "0015D0020000000F124C0006114900080005114A01",
+        ),
+        (
+            "000AD105000100041041",
+            "0015D0020000000F124C0006114900080005114A03",
+        ),
+        (
+            "000AD00100010004106D",
+            "0015D0020001000F124C0006114900080005114A0E",
+        ),
+    ];
+    for (bytes, reply) in rows {
+        let mut s = scene(alloc, ONE)?;
+        s.play(format!(in alloc; "app 1 {bytes}; settle")?.as_str())?;
+        assert!(rt; s.was_sent(1, reply)?);
+        assert_eq!(rt; s.log_from(0)?.as_str(), "error 1 syntax, answer 1");
+        assert_eq!(rt; end_text(s.world.state(1)), "syntax");
+    }
+    Ok(())
+}
+
+#[test]
+fn what_isnt_known_is_answered(rt: HostRuntime) -> Result<(), Fail> {
+    let alloc = rt.alloc();
+    let rows = [
+        (
+            "000AD06100010004FFFF000AD001000200041041",
+            "0016D0420001001012500006114900080006000CFFFF0027D003000200211443000A1147C4D9C4C1C7E6000B116DC7C1E3C5E6C1E8\
+0008115AC7E6F0F1",
+        ),
+        (
+            "000AD04100010004FFFF000AD001000200041041",
+            "0016D0020001001012500006114900080006000CFFFF",
+        ),
+        ("000AD00100010004200E", "0010D0020001000A1245000611490008"),
+    ];
+    for (bytes, reply) in rows {
+        let mut s = scene(alloc, ONE)?;
+        s.play(format!(in alloc; "app 1 {bytes}; settle")?.as_str())?;
+        assert!(rt; s.was_sent(1, reply)?);
+        assert_eq!(rt; s.log_from(0)?.as_str(), "answer 1");
+        assert_eq!(rt; end_text(s.world.state(1)), "open");
+    }
+    Ok(())
+}
