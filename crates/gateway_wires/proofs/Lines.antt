@@ -75,7 +75,8 @@ module _ {U : Type 0} (fell : List ℕ) (flying flying' : List (BTreeSet ℕ)) (
       → Flies flying lines → Flies flying' (set lines number (Some x'))
   flies_after x x' is same this others flies member other in_range = by_equal other number
       (λ e. subst (λ (n : ℕ). is_in flying' member n ≡ flies_to member (option_map (seen_line fell) (get_or (set lines number (Some x')) n None))) (sym e)
-      (at_number ∙ ap (λ (o : Option (Dialled U)). flies_to member (option_map (seen_line fell) o)) (sym (get_or-set_same lines number (Some x') None (there lines number x is)))))
+      (at_number ∙ ap (λ (o : Option (Dialled U)). flies_to member (option_map (seen_line fell) o))
+      (sym (get_or-set_same lines number (Some x') None (there lines number x is)))))
       (λ ne. others member other (both_false (eqb member x.line.member) (eqb other number) (eqb_off other number ne))
       ∙ flies member other in_range
       ∙ ap (λ (o : Option (Dialled U)). flies_to member (option_map (seen_line fell) o)) (sym (get_or-set_other lines number other (Some x') None ne)))

@@ -20,7 +20,8 @@ use Rattle.gateway_session.specs.declared.held.Held.{Held}
 use Rattle.gateway_session.specs.Session.{Session}
 use Rattle.gateway_session.specs.Told.{with_outcome, end_outcome, owed_outcome}
 use Rattle.gateway_session.specs.Steps.{with_word, begun_with, begun_by, begin_next, with_after, going_on, going_by, set_out_on, awaits_chain, said_by}
-use Rattle.gateway_session.specs.Steps.{lost_by_held, with_none_left, with_limit, after_lend, dialled_by, sent_by_talk, sent_by_held, with_list, with_accepted, with_answered}
+use Rattle.gateway_session.specs.Steps.{lost_by_held, with_none_left, with_limit, after_lend, dialled_by, sent_by_talk, sent_by_held}
+use Rattle.gateway_session.specs.Steps.{with_list, with_accepted, with_answered}
 use Rattle.gateway_session.specs.Steps.{with_whole, passes_limit, with_release, untried, got_by, back_by, got_on, talked_on}
 use Rattle.gateway_session.specs.Steps.{after_app, after_dialled, after_sent, after_back, after_given, after_said, after_lost, after_app_end}
 use Rattle.gateway_world.specs.Shows.{HoldsOf, member_lent}

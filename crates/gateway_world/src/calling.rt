@@ -36,7 +36,8 @@ impl<G: Group + Drop> Common<G> {
         requires { need_in app.old.session ≡ needs.Dial }
         ensures setup { self.new.setup ≡ self.old.setup }
         ensures shows { (z : State G G.Unit) → ShowsOne number app.old self.old.group self.old.wires self.old.pool self.old.log z
-            → OnOk result (ShowsOne number app.new self.new.group self.new.wires self.new.pool self.new.log (after_dial G.meaning self.old.setup number z).state) }
+            → OnOk result (ShowsOne number app.new self.new.group self.new.wires self.new.pool self.new.log
+            (after_dial G.meaning self.old.setup number z).state) }
     {
         let Some(transport) = app.session.held() else {
             return Ok(());

@@ -402,8 +402,6 @@ impl Scene {
     }
 }
 
-// ---- the rows
-
 const TWO: &str = "cap 2; member 1 1; member 2 1; user ALICE SECRET";
 
 const ONE: &str = "cap 1; member 1 1; user ALICE SECRET";
@@ -423,7 +421,6 @@ const UNIT: &str = "\
 000D002FD8E3C4E2D8D3F3F7F0000A00350006119C0025000BD003000100052408FF\
 0015D0520001000F220C0006114900040005211501000BD003000100052408FF";
 
-/// The log of the same.
 const UNIT_LOG: &str =
     "answer 1, lend 1 dial 1 1, run 1 1041, run 1 106D, run 1 106E, run 1 2001, answer 1, run 1 200A, \
 answer 1, run 1 200E, give 1 1, answer 1";
