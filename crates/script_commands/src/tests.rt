@@ -1,5 +1,5 @@
 use super::*;
-use ddm_codepoints::code_point::{CLSQRY, CNTQRY, EXCSQLIMM, EXCSQLSET, OPNQRY, RDBCMM, RDBRLLBCK};
+use ddm_codepoints::code_point::{EXCSQLIMM, EXCSQLSET, OPNQRY, RDBCMM, RDBRLLBCK};
 use hex_lines::read_hex;
 use link_ends::Octets;
 use std::alloc::Global;
@@ -36,70 +36,77 @@ const START: &str =
          07000C112EE2C3D9F0F1F0F1F0000D002FD8E3C4E2D8D3F3F7F000162110E2C1D4D7D3C5404040404040404040404040\
          000A00350006119C0025";
 
+/// EXCSQLSET, number 2, with a statement of one character, which others follow.
+const ONE_CHARACTER: &str = "000AD0510002000420140011D0430002000B24140000000001E2FF";
+
+/// EXCSQLIMM with a long statement, up to its first characters.
+const LONG_FRONT: &str = "000AD05100010004200AFFFFD00300018008241400007FFC0000007FF6C1C1C1";
+
 const STATEMENT: &[u8] = b"INSERT INTO T VALUES (1, 'A')";
 
 const SELECT: &[u8] = b"SELECT K, V FROM T";
 
 /// Whether bytes are those that the digits spell.
-fn are(alloc: Global, bytes: &Octets, digits: &str) -> Result<bool, Fail> {
+fn are(alloc: Global, bytes: &[u8], digits: &str) -> Result<bool, Fail> {
     match read_hex(alloc, digits.as_bytes())? {
-        Some(spelled) => Ok(bytes.as_slice() == spelled.as_slice()),
+        Some(spelled) => Ok(bytes == spelled.as_slice()),
         None => Ok(false),
     }
 }
 
 /// Whether a command has these bytes.
-fn writes(alloc: Global, command: Command, followed: bool, digits: &str) -> Result<bool, Fail> {
-    are(alloc, &write_command(alloc, &command, followed)?, digits)
+fn writes(alloc: Global, command: &Command, followed: bool, digits: &str) -> Result<bool, Fail> {
+    let bytes = write_command(alloc, command, followed)?;
+    are(alloc, bytes.as_slice(), digits)
 }
 
 #[test]
-fn statements_have_their_bytes(rt: HostRuntime) -> Result<(), Fail> {
+fn a_statement_has_its_bytes(rt: HostRuntime) -> Result<(), Fail> {
     let alloc = rt.alloc();
     let command = statement_command(alloc, EXCSQLIMM, 1, STATEMENT)?;
-    assert!(rt; writes(alloc, command, false, IMMEDIATE)?);
-    let command = statement_command(alloc, EXCSQLSET, 2, b"S")?;
-    assert!(rt;
-        writes(
-            alloc,
-            command,
-            true,
-            "000AD0510002000420140011D0430002000B24140000000001E2FF"
-        )?
-    );
-    let command = prepare_command(alloc, 3, b"SAMPLE", 7, false, SELECT)?;
-    assert!(rt; writes(alloc, command, false, PREPARE)?);
-    let command = prepare_command(alloc, 1, b"SAMPLE", 65535, true, SELECT)?;
-    assert!(rt; writes(alloc, command, true, PREPARE_HELD)?);
+    assert!(rt; writes(alloc, &command, false, IMMEDIATE)?);
     Ok(())
 }
 
 #[test]
-fn sections_and_unit_ends_have_their_bytes(rt: HostRuntime) -> Result<(), Fail> {
+fn a_set_statement_has_its_bytes(rt: HostRuntime) -> Result<(), Fail> {
+    let alloc = rt.alloc();
+    let command = statement_command(alloc, EXCSQLSET, 2, b"S")?;
+    assert!(rt; writes(alloc, &command, true, ONE_CHARACTER)?);
+    Ok(())
+}
+
+#[test]
+fn a_statement_to_prepare_has_its_bytes(rt: HostRuntime) -> Result<(), Fail> {
+    let alloc = rt.alloc();
+    let command = prepare_command(alloc, 3, b"SAMPLE", 7, false, SELECT)?;
+    assert!(rt; writes(alloc, &command, false, PREPARE)?);
+    Ok(())
+}
+
+#[test]
+fn a_held_cursor_is_asked_for(rt: HostRuntime) -> Result<(), Fail> {
+    let alloc = rt.alloc();
+    let command = prepare_command(alloc, 1, b"SAMPLE", 65535, true, SELECT)?;
+    assert!(rt; writes(alloc, &command, true, PREPARE_HELD)?);
+    Ok(())
+}
+
+#[test]
+fn a_section_has_its_bytes(rt: HostRuntime) -> Result<(), Fail> {
     let alloc = rt.alloc();
     let command = section_command(alloc, OPNQRY, 2, b"SAMPLE", 7)?;
-    assert!(rt; writes(alloc, command, true, OPEN)?);
-    for code in [CNTQRY, CLSQRY] {
-        let command = section_command(alloc, code, 2, b"SAMPLE", 7)?;
-        let bytes = write_command(alloc, &command, true)?;
-        assert_eq!(rt; bytes.len(), 78);
-    }
-    assert!(rt;
-        writes(
-            alloc,
-            unit_end_command(alloc, RDBCMM, 5)?,
-            false,
-            "000AD00100050004200E"
-        )?
-    );
-    assert!(rt;
-        writes(
-            alloc,
-            unit_end_command(alloc, RDBRLLBCK, 1)?,
-            true,
-            "000AD04100010004200F"
-        )?
-    );
+    assert!(rt; writes(alloc, &command, true, OPEN)?);
+    Ok(())
+}
+
+#[test]
+fn unit_ends_have_their_bytes(rt: HostRuntime) -> Result<(), Fail> {
+    let alloc = rt.alloc();
+    let commit = unit_end_command(alloc, RDBCMM, 5)?;
+    assert!(rt; writes(alloc, &commit, false, "000AD00100050004200E")?);
+    let roll_back = unit_end_command(alloc, RDBRLLBCK, 1)?;
+    assert!(rt; writes(alloc, &roll_back, true, "000AD04100010004200F")?);
     Ok(())
 }
 
@@ -107,29 +114,26 @@ fn sections_and_unit_ends_have_their_bytes(rt: HostRuntime) -> Result<(), Fail> 
 fn access_has_its_bytes(rt: HostRuntime) -> Result<(), Fail> {
     let alloc = rt.alloc();
     let bytes = start_chains(alloc, b"SAMPLE", b"ALICE", b"SECRET")?;
-    assert!(rt; are(alloc, &bytes, START)?);
+    assert!(rt; are(alloc, bytes.as_slice(), START)?);
     Ok(())
 }
 
-/// A statement of 32,758 characters: its DSS has two segments, and its object an extended length.
+/// The bytes of EXCSQLIMM with a statement of 32,758 characters.
+fn long_statement(alloc: Global) -> Result<Octets, Fail> {
+    let mut text = Vec::new(alloc);
+    text.resize(32_758, b'A')?;
+    let command = statement_command(alloc, EXCSQLIMM, 1, text.as_slice())?;
+    Ok(write_command(alloc, &command, false)?)
+}
+
+/// The DSS of a long statement has two segments, and its object an extended length.
 #[test]
 fn a_long_text_is_spelled_canonically(rt: HostRuntime) -> Result<(), Fail> {
     let alloc = rt.alloc();
-    let mut text = Vec::new(alloc);
-    for _ in 0..32_758 {
-        text.push(b'A')?;
-    }
-    let command = statement_command(alloc, EXCSQLIMM, 1, text.as_slice())?;
-    let bytes = write_command(alloc, &command, false)?;
-    let front = Octets::of(alloc, &bytes.as_slice()[..32])?;
-    assert!(rt;
-        are(
-            alloc,
-            &front,
-            "000AD05100010004200AFFFFD00300018008241400007FFC0000007FF6C1C1C1"
-        )?
-    );
-    let rest = Octets::of(alloc, &bytes.as_slice()[32_777..])?;
-    assert!(rt; are(alloc, &rest, "000DC1C1C1C1C1C1C1C1C1C1FF")?);
+    let bytes = long_statement(alloc)?;
+    let front = bytes.as_slice().get(..32).unwrap_or(&[]);
+    assert!(rt; are(alloc, front, LONG_FRONT)?);
+    let rest = bytes.as_slice().get(32_777..).unwrap_or(&[]);
+    assert!(rt; are(alloc, rest, "000DC1C1C1C1C1C1C1C1C1C1FF")?);
     Ok(())
 }
