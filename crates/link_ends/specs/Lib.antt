@@ -5,3 +5,7 @@ pub mod Source
 pub mod Sink
 pub mod Memory
 pub mod Tape
+pub mod Room
+pub mod Link
+pub mod Doors
+pub mod Prepared

@@ -5,6 +5,7 @@ ghost use Rattle.link_ends.specs.Memory.{is_refused, sink_state};
 
 use crate::marks::Marks;
 use crate::octets::NoMemory;
+use crate::room::Room;
 use crate::sink::Sink;
 use crate::source::Failed;
 use std::alloc::Global;
@@ -14,22 +15,18 @@ use std::marker::Model;
 /// or where no room is left for a piece that isn't empty; one that doesn't takes all that fits.
 #[derive(Debug, Drop)]
 pub struct MemSink {
-    bytes: Vec<u8>,
-    room: usize,
+    kept: Room,
     marks: Marks,
     calls: u64,
     faults: u64,
 }
 
 impl Model for MemSink {
-    ghost use Rattle.std.specs.Prelude.{◌+◌, ◌≤◌, vec_len, vec_capacity};
     ghost use Rattle.link_ends.specs.Memory.{Store};
 
     ghost Value = { Store };
 
-    ghost view = { λ s. record { taken = s.bytes.items; room = s.room; marks = s.marks; calls = s.calls; faults = s.faults } };
-
-    ghost invariant = { λ s. vec_len s.bytes + s.room ≤ vec_capacity s.bytes };
+    ghost view = { λ s. record { taken = s.kept.taken; room = s.kept.room; marks = s.marks; calls = s.calls; faults = s.faults } };
 }
 
 impl MemSink {
@@ -37,10 +34,8 @@ impl MemSink {
     pub fn new(alloc: Global, room: u32, fails: Marks) -> Result<MemSink, NoMemory>
         ensures { IfOk result (λ sink. sink ≡ record { taken = []; room = room; marks = fails; calls = 0; faults = 0 }) }
     {
-        let room = room as usize;
         Ok(MemSink {
-            bytes: Vec::with_capacity(alloc, room)?,
-            room,
+            kept: Room::new(alloc, room)?,
             marks: fails,
             calls: 0,
             faults: 0,
@@ -51,7 +46,7 @@ impl MemSink {
     pub fn written(&self) -> &[u8]
         ensures { result.now ≡ self.now.taken }
     {
-        self.bytes.as_slice()
+        self.kept.taken()
     }
 }
 
@@ -67,19 +62,12 @@ impl Sink for MemSink {
         ensures marks { self.new.marks ≡ self.old.marks }
         ensures written { IsWritten result (sink_state self.old) (sink_state self.new) piece.now }
     {
-        let refused = self.marks.has(self.calls) || (self.room == 0 && !piece.is_empty());
+        let refused = self.marks.has(self.calls) || (self.kept.is_full() && !piece.is_empty());
         self.calls = self.calls.saturating_add(1);
         if refused {
             self.faults = self.faults.saturating_add(1);
             return Err(Failed);
         }
-        let count = piece.len().min(self.room);
-        match self.bytes.extend_from_slice(&piece[..count]) {
-            Ok(()) => {
-                self.room -= count;
-                Ok(count)
-            }
-            Err(_) => unreachable!(),
-        }
+        Ok(self.kept.put(piece))
     }
 }

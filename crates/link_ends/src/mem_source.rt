@@ -58,13 +58,11 @@ impl Source for MemSource {
             self.faults = self.faults.saturating_add(1);
             return Err(Failed);
         }
-        let left = self.bytes.left();
-        let count = buf.len().min(left.len());
+        let count = buf.len().min(self.bytes.left().len());
         if count == 0 && !buf.is_empty() {
             self.ends = self.ends.saturating_add(1);
         }
-        buf[..count].copy_from_slice(&left[..count]);
-        self.bytes.take(count);
+        self.bytes.read(buf, count);
         Ok(count)
     }
 }

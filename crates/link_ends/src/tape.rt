@@ -1,4 +1,4 @@
-ghost use Rattle.std.specs.Prelude.{◌≡◌, ◌≤◌, length, OnOk, OnErr};
+ghost use Rattle.std.specs.Prelude.{◌≡◌, ◌≤◌, length, take, drop, OnOk, OnErr};
 ghost use Rattle.link_ends.specs.Tape.{whole_tape, after_append, after_take};
 
 use crate::octets::{NoMemory, Octets};
@@ -60,6 +60,19 @@ impl Tape {
         let left = self.bytes.len() - self.place;
         prove!(count <= left);
         self.place += count;
+    }
+
+    /// Takes the next `count` bytes into the front of `buf`.
+    pub(crate) fn read(&mut self, buf: &mut [u8], count: usize)
+        requires fits { count ≤ length buf.old }
+        requires left { count ≤ length self.old.left }
+        ensures front { take count buf.new ≡ take count self.old.left }
+        ensures behind { drop count buf.new ≡ drop count buf.old }
+        ensures tape { self.new ≡ after_take self.old count }
+    {
+        let left = self.left();
+        buf[..count].copy_from_slice(&left[..count]);
+        self.take(count);
     }
 
     /// Gives up the bytes that are taken.

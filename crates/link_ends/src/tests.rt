@@ -1,4 +1,7 @@
-use crate::{Failed, Marks, MemSink, MemSource, NoMemory, Octets, OctetsList, Sink, Source, Tape};
+use crate::{
+    Dial, Door, Failed, Link, Marks, MemDial, MemDoor, MemLink, MemSink, MemSource, NoMemory,
+    Octets, OctetsList, Sink, Source, Tape,
+};
 use bytes::Bytes;
 use std::alloc::Global;
 use std::test::Fail;
@@ -124,5 +127,84 @@ fn ends_in_memory_answer_by_their_marks(rt: HostRuntime) -> Result<(), Fail> {
     assert_eq!(rt; sink.write(b"f"), Err(Failed));
     assert_eq!(rt; sink.write(b""), Ok(0));
     assert_eq!(rt; sink.written(), b"abcde".as_slice());
+    Ok(())
+}
+
+fn link(alloc: Global, bytes: &[u8], room: u32) -> Result<MemLink, NoMemory> {
+    MemLink::new(
+        alloc,
+        Octets::of(alloc, bytes)?,
+        room,
+        Marks::of(alloc, &[])?,
+    )
+}
+
+#[test]
+fn a_link_counts_reads_and_writes_together(rt: HostRuntime) -> Result<(), Fail> {
+    let alloc = rt.alloc();
+    let fails = Marks::of(alloc, &[1])?;
+    let mut link = MemLink::new(alloc, Octets::of(alloc, b"abc")?, 2, fails)?;
+    let mut buf = [0u8; 2];
+    assert_eq!(rt; link.read(&mut buf), Ok(2));
+    assert_eq!(rt; link.write(b"d"), Err(Failed));
+    assert_eq!(rt; link.write(b"def"), Ok(2));
+    assert_eq!(rt; link.write(b"f"), Err(Failed));
+    assert_eq!(rt; link.read(&mut buf), Ok(1));
+    assert_eq!(rt; link.read(&mut buf), Ok(0));
+    assert_eq!(rt; buf.as_slice(), b"cb".as_slice());
+    assert_eq!(rt; link.written(), b"de".as_slice());
+    Ok(())
+}
+
+#[test]
+fn a_read_ends_at_the_next_cut(rt: HostRuntime) -> Result<(), Fail> {
+    let alloc = rt.alloc();
+    let cuts = Marks::of(alloc, &[1, 4])?;
+    let fails = Marks::of(alloc, &[])?;
+    let mut link = MemLink::paced(alloc, Octets::of(alloc, b"abcdefgh")?, 0, cuts, fails)?;
+    let mut buf = [0u8; 5];
+    assert_eq!(rt; link.read(&mut buf), Ok(1));
+    assert_eq!(rt; link.read(&mut buf), Ok(3));
+    assert_eq!(rt; link.read(&mut buf), Ok(4));
+    assert_eq!(rt; buf.as_slice(), b"efgh\0".as_slice());
+    Ok(())
+}
+
+#[test]
+fn a_dial_gives_the_links_of_each_member_in_turn(rt: HostRuntime) -> Result<(), Fail> {
+    let alloc = rt.alloc();
+    let mut dial = MemDial::new(alloc);
+    dial.add(2, link(alloc, b"a", 0)?)?;
+    dial.add(1, link(alloc, b"b", 0)?)?;
+    dial.add(2, link(alloc, b"c", 0)?)?;
+    let mut buf = [0u8; 1];
+    for (member, byte) in [(2u32, b'a'), (2, b'c'), (1, b'b')] {
+        let mut link = dial.dial(member).map_err(|_| "no link")?;
+        assert_eq!(rt; link.read(&mut buf), Ok(1));
+        assert_eq!(rt; buf[0], byte);
+    }
+    assert!(rt; dial.dial(2).is_err());
+    Ok(())
+}
+
+#[test]
+fn a_door_keeps_what_comes_back(rt: HostRuntime) -> Result<(), Fail> {
+    let alloc = rt.alloc();
+    let mut door: MemDoor<u32> = MemDoor::new(alloc);
+    door.back(6);
+    door.add(link(alloc, b"a", 0)?)?;
+    door.add(link(alloc, b"b", 0)?)?;
+    let mut buf = [0u8; 1];
+    let mut first = door.take().map_err(|_| "no link")?;
+    assert_eq!(rt; first.read(&mut buf), Ok(1));
+    assert_eq!(rt; buf[0], b'a');
+    door.back(7);
+    door.back(8);
+    assert!(rt; door.take().is_ok());
+    assert!(rt; door.take().is_err());
+    door.back(9);
+    assert_eq!(rt; door.served(0).copied(), Some(7));
+    assert_eq!(rt; door.served(1).copied(), Some(9));
+    assert!(rt; door.served(2).is_none());
     Ok(())
 }
