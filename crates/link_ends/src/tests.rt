@@ -1,3 +1,7 @@
+ghost use Rattle.std.specs.Prelude.{IfOk};
+ghost use Rattle.link_ends.specs.Link.{IsFresh};
+ghost use Rattle.link_ends.specs.Prepared.{wire_state};
+
 use crate::{
     Dial, Door, Failed, Link, Marks, MemDial, MemDoor, MemLink, MemSink, MemSource, NoMemory,
     Octets, OctetsList, Sink, Source, Tape,
@@ -130,81 +134,141 @@ fn ends_in_memory_answer_by_their_marks(rt: HostRuntime) -> Result<(), Fail> {
     Ok(())
 }
 
-fn link(alloc: Global, bytes: &[u8], room: u32) -> Result<MemLink, NoMemory> {
-    MemLink::new(
-        alloc,
-        Octets::of(alloc, bytes)?,
-        room,
-        Marks::of(alloc, &[])?,
-    )
+/// A link of which no call is to fail.
+fn link(alloc: Global, bytes: &[u8]) -> Result<MemLink, NoMemory>
+    ensures { IfOk result (λ link. IsFresh (wire_state link)) }
+{
+    MemLink::new(alloc, Octets::of(alloc, bytes)?, 0, Marks::of(alloc, &[])?)
+}
+
+/// Reads five bytes at most, and appends them; `-` where the read fails.
+fn put_read(link: &mut MemLink, said: &mut Octets) -> Result<(), NoMemory> {
+    let mut buf = [0u8; 5];
+    match link.read(&mut buf) {
+        Ok(count) => said.push_all(&buf[..count]),
+        Err(Failed) => said.push_all(b"-"),
+    }
+}
+
+/// Writes a piece, and appends how many of its bytes were taken; `-` where the write fails.
+fn put_write(link: &mut MemLink, piece: &[u8], said: &mut Octets) -> Result<(), NoMemory> {
+    match link.write(piece) {
+        Ok(0) => said.push_all(b"0"),
+        Ok(1) => said.push_all(b"1"),
+        Ok(2) => said.push_all(b"2"),
+        Ok(_) => said.push_all(b"+"),
+        Err(Failed) => said.push_all(b"-"),
+    }
+}
+
+/// What a link answers to reads, which are `r`, and to writes, which are their pieces; each answer ends with a blank.
+fn put_answers(link: &mut MemLink, calls: &str, said: &mut Octets) -> Result<(), NoMemory> {
+    for call in calls.split(' ') {
+        put_answer(link, call, said)?;
+        said.push_all(b" ")?;
+    }
+    Ok(())
+}
+
+fn put_answer(link: &mut MemLink, call: &str, said: &mut Octets) -> Result<(), NoMemory> {
+    if call == "r" {
+        put_read(link, said)
+    } else {
+        put_write(link, call.as_bytes(), said)
+    }
+}
+
+/// A link of eight bytes with room for two, with these cuts, of which the calls of these numbers are to fail.
+fn answers(alloc: Global, cuts: &[u32], fails: &[u32], calls: &str) -> Result<Octets, NoMemory> {
+    let (cuts, fails) = (Marks::of(alloc, cuts)?, Marks::of(alloc, fails)?);
+    let mut link = MemLink::paced(alloc, Octets::of(alloc, b"abcdefgh")?, 2, cuts, fails)?;
+    let mut said = Octets::new(alloc);
+    put_answers(&mut link, calls, &mut said)?;
+    said.push_all(link.written())?;
+    Ok(said)
 }
 
 #[test]
 fn a_link_counts_reads_and_writes_together(rt: HostRuntime) -> Result<(), Fail> {
-    let alloc = rt.alloc();
-    let fails = Marks::of(alloc, &[1])?;
-    let mut link = MemLink::new(alloc, Octets::of(alloc, b"abc")?, 2, fails)?;
-    let mut buf = [0u8; 2];
-    assert_eq!(rt; link.read(&mut buf), Ok(2));
-    assert_eq!(rt; link.write(b"d"), Err(Failed));
-    assert_eq!(rt; link.write(b"def"), Ok(2));
-    assert_eq!(rt; link.write(b"f"), Err(Failed));
-    assert_eq!(rt; link.read(&mut buf), Ok(1));
-    assert_eq!(rt; link.read(&mut buf), Ok(0));
-    assert_eq!(rt; buf.as_slice(), b"cb".as_slice());
-    assert_eq!(rt; link.written(), b"de".as_slice());
+    let said = answers(rt.alloc(), &[], &[1], "r d def f r r")?;
+    assert_eq!(rt; said.as_slice(), b"abcde - 2 - fgh  de".as_slice());
+    let said = answers(rt.alloc(), &[1, 4], &[], "r r r r")?;
+    assert_eq!(rt; said.as_slice(), b"a bcd efgh  ".as_slice());
     Ok(())
 }
 
-#[test]
-fn a_read_ends_at_the_next_cut(rt: HostRuntime) -> Result<(), Fail> {
-    let alloc = rt.alloc();
-    let cuts = Marks::of(alloc, &[1, 4])?;
-    let fails = Marks::of(alloc, &[])?;
-    let mut link = MemLink::paced(alloc, Octets::of(alloc, b"abcdefgh")?, 0, cuts, fails)?;
-    let mut buf = [0u8; 5];
-    assert_eq!(rt; link.read(&mut buf), Ok(1));
-    assert_eq!(rt; link.read(&mut buf), Ok(3));
-    assert_eq!(rt; link.read(&mut buf), Ok(4));
-    assert_eq!(rt; buf.as_slice(), b"efgh\0".as_slice());
-    Ok(())
+/// What is read first of the link that a dial gives, `-` where it gives none.
+fn put_dialled(dial: &mut MemDial, member: u32, said: &mut Octets) -> Result<(), NoMemory> {
+    match dial.dial(member) {
+        Ok(link) => put_first(link, said),
+        Err(Failed) => said.push_all(b"-"),
+    }
+}
+
+fn put_first(mut link: MemLink, said: &mut Octets) -> Result<(), NoMemory> {
+    put_read(&mut link, said)
+}
+
+/// A dial with two links to member 2, and between them one to member 1.
+fn dial(alloc: Global) -> Result<MemDial, NoMemory> {
+    let mut dial = MemDial::new(alloc);
+    dial.add(2, link(alloc, b"a")?)?;
+    dial.add(1, link(alloc, b"b")?)?;
+    dial.add(2, link(alloc, b"c")?)?;
+    Ok(dial)
 }
 
 #[test]
 fn a_dial_gives_the_links_of_each_member_in_turn(rt: HostRuntime) -> Result<(), Fail> {
-    let alloc = rt.alloc();
-    let mut dial = MemDial::new(alloc);
-    dial.add(2, link(alloc, b"a", 0)?)?;
-    dial.add(1, link(alloc, b"b", 0)?)?;
-    dial.add(2, link(alloc, b"c", 0)?)?;
-    let mut buf = [0u8; 1];
-    for (member, byte) in [(2u32, b'a'), (2, b'c'), (1, b'b')] {
-        let mut link = dial.dial(member).map_err(|_| "no link")?;
-        assert_eq!(rt; link.read(&mut buf), Ok(1));
-        assert_eq!(rt; buf[0], byte);
+    let mut dial = dial(rt.alloc())?;
+    let mut said = Octets::new(rt.alloc());
+    for member in [2u32, 2, 1, 2] {
+        put_dialled(&mut dial, member, &mut said)?;
     }
-    assert!(rt; dial.dial(2).is_err());
+    assert_eq!(rt; said.as_slice(), b"acb-".as_slice());
     Ok(())
+}
+
+/// What is read first of the link that a door gives, `-` where it gives none.
+fn put_taken(door: &mut MemDoor<u32>, said: &mut Octets) -> Result<(), NoMemory> {
+    match door.take() {
+        Ok(link) => put_first(link, said),
+        Err(Failed) => said.push_all(b"-"),
+    }
+}
+
+/// A door with two links, to which 6 came back before it gave one, 7 and 8 once it had given one, and 9 once it had none left.
+fn put_door(door: &mut MemDoor<u32>, said: &mut Octets) -> Result<(), NoMemory> {
+    door.back(6);
+    put_taken(door, said)?;
+    door.back(7);
+    door.back(8);
+    put_taken(door, said)?;
+    put_taken(door, said)?;
+    door.back(9);
+    Ok(())
+}
+
+fn door(alloc: Global) -> Result<MemDoor<u32>, NoMemory> {
+    let mut door: MemDoor<u32> = MemDoor::new(alloc);
+    door.add(link(alloc, b"a")?)?;
+    door.add(link(alloc, b"b")?)?;
+    Ok(door)
 }
 
 #[test]
 fn a_door_keeps_what_comes_back(rt: HostRuntime) -> Result<(), Fail> {
-    let alloc = rt.alloc();
-    let mut door: MemDoor<u32> = MemDoor::new(alloc);
-    door.back(6);
-    door.add(link(alloc, b"a", 0)?)?;
-    door.add(link(alloc, b"b", 0)?)?;
-    let mut buf = [0u8; 1];
-    let mut first = door.take().map_err(|_| "no link")?;
-    assert_eq!(rt; first.read(&mut buf), Ok(1));
-    assert_eq!(rt; buf[0], b'a');
-    door.back(7);
-    door.back(8);
-    assert!(rt; door.take().is_ok());
-    assert!(rt; door.take().is_err());
-    door.back(9);
-    assert_eq!(rt; door.served(0).copied(), Some(7));
-    assert_eq!(rt; door.served(1).copied(), Some(9));
-    assert!(rt; door.served(2).is_none());
+    let mut door = door(rt.alloc())?;
+    let mut said = Octets::new(rt.alloc());
+    put_door(&mut door, &mut said)?;
+    assert_eq!(rt; said.as_slice(), b"ab-".as_slice());
+    assert_eq!(rt;
+        [
+            door.served(0).copied(),
+            door.served(1).copied(),
+            door.served(2).copied()
+        ],
+        [Some(7), Some(9), None]
+    );
     Ok(())
 }
