@@ -37,7 +37,7 @@ pub(super) struct Caller {
     /// What it sends, and what it was said.
     pub(super) feed: Feed,
     pub(super) said: Octets,
-    pub(super) line: Option<Line>,
+    pub(super) line: Option<Box<Line>>,
 }
 
 pub(super) fn new_feed(alloc: Global) -> Feed {
@@ -48,16 +48,20 @@ pub(super) fn new_feed(alloc: Global) -> Feed {
 }
 
 /// An application that has nothing to send yet.
-pub(super) fn new_caller(alloc: Global, session: Session) -> Caller {
-    Caller {
-        session,
-        feed: new_feed(alloc),
-        said: Octets::new(alloc),
-        line: None,
-    }
+pub(super) fn new_caller(alloc: Global, id: u32) -> Result<Box<Caller>, NoMemory> {
+    let session = new_session(alloc, id)?;
+    Ok(Box::new(
+        alloc,
+        Caller {
+            session,
+            feed: new_feed(alloc),
+            said: Octets::new(alloc),
+            line: None,
+        },
+    )?)
 }
 
-pub(super) fn new_session(alloc: Global, id: u32) -> Result<Session, NoMemory> {
+fn new_session(alloc: Global, id: u32) -> Result<Session, NoMemory> {
     match RdbName::of(b"SAMPLE") {
         Some(rdb) => Session::new(alloc, id, &rdb),
         None => Err(NoMemory),
@@ -110,7 +114,7 @@ pub(super) fn lose(session: &mut Session, why: LossWhy) {
 }
 
 /// Whether a member has bytes to act on.
-pub(super) fn is_sent(line: &Option<Line>) -> bool {
+pub(super) fn is_sent(line: &Option<Box<Line>>) -> bool {
     match line {
         Some(line) => line.sent.taken < line.sent.bytes.len(),
         None => false,
@@ -125,7 +129,7 @@ pub(super) fn run(line: &mut Line, store: &mut Store, most: usize) {
 }
 
 /// The member acts on the next bytes, and tells what it ran.
-pub(super) fn act(line: &mut Option<Line>, store: &mut Store, most: usize, log: &mut Log) {
+pub(super) fn act(line: &mut Option<Box<Line>>, store: &mut Store, most: usize, log: &mut Log) {
     if let Some(line) = line {
         let before = line.talk.ran().len();
         run(line, store, most);
@@ -140,12 +144,12 @@ fn note_last(log: &mut Log, line: &Line, before: usize) {
 }
 
 /// What is given back is idle.
-pub(super) fn put_back(line: &mut Option<Line>, idle: &mut Option<Line>) {
+pub(super) fn put_back(line: &mut Option<Box<Line>>, idle: &mut Option<Box<Line>>) {
     *idle = mem::replace(line, None);
 }
 
 /// Whether all bytes of a member were read.
-pub(super) fn is_read(line: &Option<Line>) -> bool {
+pub(super) fn is_read(line: &Option<Box<Line>>) -> bool {
     match line {
         Some(line) => line.talk.out().len() <= line.read,
         None => true,

@@ -147,7 +147,8 @@ pub(super) fn standing(session: &Session) -> &'static str {
     match session.need() {
         Need::Done(End::NoMember { .. }) => "no member",
         Need::Done(End::Limit { kind }) if matches!(kind, LimitKind::Registers) => "registers",
-        Need::Done(_) => "ended",
+        Need::Done(End::AppEnded) => "ended",
+        Need::Done(_) => "closed",
         Need::App => "open",
         Need::Dial => "dial",
         Need::Send => "send",

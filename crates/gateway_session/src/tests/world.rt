@@ -4,8 +4,7 @@ ghost use Rattle.gateway_session.specs.Members.{LendsMember};
 ghost use Rattle.gateway_session.specs.Memory.{need_in};
 
 use super::ends::{
-    Caller, Line, act, is_read, is_sent, lose, move_bytes, new_caller, new_feed, new_session,
-    put_back,
+    Caller, Line, act, is_read, is_sent, lose, move_bytes, new_caller, new_feed, put_back,
 };
 use super::told::{
     Log, note_error, note_given, note_group, note_lent, note_list, note_loss, note_outcome,
@@ -38,16 +37,16 @@ pub(super) struct Members {
     pub(super) list: ServerList,
     pub(super) ways: Ways,
     /// A transport that was given back, and one that was lost, on which bytes may still come.
-    pub(super) idle: Option<Line>,
-    pub(super) late: Option<Line>,
+    pub(super) idle: Option<Box<Line>>,
+    pub(super) late: Option<Box<Line>>,
 }
 
 /// Two applications, the members, and what was told.
 #[derive(Drop)]
 pub(super) struct World {
-    pub(super) app: Caller,
-    pub(super) other: Caller,
-    pub(super) members: Members,
+    pub(super) app: Box<Caller>,
+    pub(super) other: Box<Caller>,
+    pub(super) members: Box<Members>,
     pub(super) log: Log,
 }
 
@@ -59,30 +58,34 @@ fn new_store(alloc: Global) -> Result<Store, NoMemory> {
     Ok(store)
 }
 
-fn new_members(alloc: Global, store: Store) -> Members {
-    Members {
+fn new_members(alloc: Global) -> Result<Box<Members>, NoMemory> {
+    let store = new_store(alloc)?;
+    Ok(Box::new(
         alloc,
-        store,
-        list: ServerList::new(),
-        ways: Ways {
-            alone: false,
-            down: false,
-            drawn: 0,
+        Members {
+            alloc,
+            store,
+            list: ServerList::new(),
+            ways: Ways {
+                alone: false,
+                down: false,
+                drawn: 0,
+            },
+            idle: None,
+            late: None,
         },
-        idle: None,
-        late: None,
-    }
+    )?)
 }
 
 /// A world in which nothing happened.
 pub(super) fn new_world(alloc: Global) -> Result<World, NoMemory> {
-    let store = new_store(alloc)?;
-    let app = new_session(alloc, 1)?;
-    let other = new_session(alloc, 2)?;
+    let members = new_members(alloc)?;
+    let app = new_caller(alloc, 1)?;
+    let other = new_caller(alloc, 2)?;
     Ok(World {
-        app: new_caller(alloc, app),
-        other: new_caller(alloc, other),
-        members: new_members(alloc, store),
+        app,
+        other,
+        members,
         log: Log {
             text: Octets::new(alloc),
             ran: 0,
@@ -100,7 +103,7 @@ fn act_next(app: &mut Caller, members: &mut Members, most: usize, log: &mut Log)
 }
 
 /// What is lent, of the first member that wasn't tried: its transport that is idle, unless a fresh one is asked for.
-pub(super) fn lent(session: &Session, ways: Ways, idle: &Option<Line>) -> Lent
+pub(super) fn lent(session: &Session, ways: Ways, idle: &Option<Box<Line>>) -> Lent
     ensures { LendsMember result }
 {
     let tried = session.tried();
@@ -117,7 +120,7 @@ pub(super) fn lent(session: &Session, ways: Ways, idle: &Option<Line>) -> Lent
 }
 
 /// A transport that is lent is the application's, or will be dialled.
-fn hand_out(line: &mut Option<Line>, members: &mut Members, lent: Lent) {
+fn hand_out(line: &mut Option<Box<Line>>, members: &mut Members, lent: Lent) {
     match lent {
         Lent::Idle { .. } => *line = mem::replace(&mut members.idle, None),
         Lent::Dial { number, .. } => members.ways.drawn = number,
@@ -135,19 +138,22 @@ pub(super) fn lend(app: &mut Caller, members: &mut Members, log: &mut Log)
 }
 
 /// A transport to a member, unless it is down.
-fn new_line(members: &Members) -> Option<Line> {
+fn new_line(members: &Members) -> Option<Box<Line>> {
     if members.ways.down {
         return None;
     }
-    match Conversation::new(members.alloc, &members.store, &members.list) {
-        Ok(talk) => Some(Line {
+    let alloc = members.alloc;
+    let talk = Conversation::new(alloc, &members.store, &members.list).ok()?;
+    Box::new(
+        alloc,
+        Line {
             number: members.ways.drawn,
             talk,
-            sent: new_feed(members.alloc),
+            sent: new_feed(alloc),
             read: 0,
-        }),
-        Err(_) => None,
-    }
+        },
+    )
+    .ok()
 }
 
 /// A member is dialled.
@@ -164,7 +170,7 @@ fn is_clean(session: &Session) -> bool {
     matches!(mark.stage, Stage::Attached) && mark.unread == 0
 }
 
-pub(super) fn give(app: &mut Caller, idle: &mut Option<Line>, log: &mut Log)
+pub(super) fn give(app: &mut Caller, idle: &mut Option<Box<Line>>, log: &mut Log)
     requires { need_in app.old.session ≡ Give }
 {
     if is_clean(&app.session) {
@@ -175,7 +181,7 @@ pub(super) fn give(app: &mut Caller, idle: &mut Option<Line>, log: &mut Log)
 }
 
 /// What a step told. A transport that was lost may still give its member bytes.
-fn note(app: &mut Caller, late: &mut Option<Line>, log: &mut Log) {
+fn note(app: &mut Caller, late: &mut Option<Box<Line>>, log: &mut Log) {
     note_list(log, &mut app.session);
     note_outcome(log, &mut app.session);
     note_error(log, &mut app.session);
