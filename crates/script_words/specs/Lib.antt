@@ -1,0 +1,5 @@
+pub mod Words
+pub mod Number
+pub mod Field
+pub mod Keyword
+pub mod Stage
