@@ -177,11 +177,11 @@ going_on_uncounted s = going_by_uncounted s.core.end s
 
 -- ---- what is told of an event
 
-word_uncounted : (error : Option ErrorWord) (s : Session) → uncounted (with_word error s) ≡ with_word error (uncounted s)
+pub word_uncounted : (error : Option ErrorWord) (s : Session) → uncounted (with_word error s) ≡ with_word error (uncounted s)
 word_uncounted None s = refl
 word_uncounted (Some made) s = refl
 
-list_uncounted : (list : Option (List ℕ)) (s : Session) → uncounted (with_list list s) ≡ with_list list (uncounted s)
+pub list_uncounted : (list : Option (List ℕ)) (s : Session) → uncounted (with_list list s) ≡ with_list list (uncounted s)
 list_uncounted None s = refl
 list_uncounted (Some bytes) s = refl
 
