@@ -1,0 +1,6 @@
+pub mod Lines
+pub mod Reading
+pub mod Falling
+pub mod Dialling
+pub mod Rooms
+pub mod Sorting
