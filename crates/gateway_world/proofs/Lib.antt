@@ -1,0 +1,16 @@
+pub mod Uncounted
+pub mod Holding
+pub mod Asking
+pub mod Moving
+pub mod Saying
+pub mod Calling
+pub mod Lines
+pub mod Sending
+pub mod Dialling
+pub mod Others
+pub mod Reads
+pub mod Fitting
+pub mod Acting
+pub mod Canning
+pub mod Lending
+pub mod Drawing
