@@ -28,16 +28,11 @@ use Rattle.gateway_world.specs.State.{State, AppState, start, session_of, with_a
 use Rattle.gateway_world.specs.Asked.{called, list_told, pool_with_list, pool_with_loss, pool_asked, asked, asking, leaving, pool_left}
 use Rattle.gateway_world.specs.Events.{after_append, after_event, after_give_on, after_dial_on, after_send_on, after_back_on, after_act_on, lend_of, lent_of, with_unread, with_dialled, on_line}
 use Rattle.gateway_world.specs.Can.{is_of, needs, can}
-use Rattle.gateway_world.specs.Shows.{HoldsBy, IsDrawn}
+use Rattle.gateway_world.specs.Shows.{HoldsBy, IsDrawn, Draws}
 use Rattle.gateway_world.specs.declared.kind.Kind.TheVariants as kind
 use Rattle.gateway_world.proofs.Fitting.{and_left, and_right}
 use Rattle.gateway_world.proofs.Holding.{app_keeps, lent_keeps, dial_keeps, sent_keeps, back_keeps, given_keeps, say_keeps, lose_keeps, end_keeps}
 use Rattle.gateway_world.proofs.Lending.{lends_drawn, drawn_kept, learn_drawn, lend_none}
-
-pub record Draws {S U : Type 0} (z : State S U) : Type 0 where
-  pub pool : Holds z.pool
-  pub held : (i : ℕ) → HoldsBy (IsDrawn z.pool.drawn) (session_of z i).held
-  pub lines : (number : ℕ) → is_some (z.line number) ≡ true → number ≤ z.pool.drawn
 
 -- ---- the pool
 

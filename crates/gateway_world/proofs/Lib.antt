@@ -14,3 +14,5 @@ pub mod Acting
 pub mod Canning
 pub mod Lending
 pub mod Drawing
+pub mod Nexting
+pub mod Appending

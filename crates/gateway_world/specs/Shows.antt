@@ -1,7 +1,8 @@
 -- What code has for a world. No standard speaks of it: this is this project's own.
-use Rattle.std.specs.Prelude.{◌≡◌, ◌≢◌, ℕ, ◌+◌, ◌<◌, ◌≤◌, true, if◌then◌else◌, List, [], drop, length, slice_index_or, Option, Some, None}
+use Rattle.std.specs.Prelude.{◌≡◌, ◌≢◌, ℕ, ◌+◌, ◌<◌, ◌≤◌, true, if◌then◌else◌, List, [], drop, length, slice_index_or, is_some, Option, Some, None}
 use Rattle.server_list.specs.Tried.{is_member}
 use Rattle.transport_pool.specs.State.{PoolState}
+use Rattle.transport_pool.specs.Sound.{Holds}
 use Rattle.transport_pool.specs.declared.entry.PoolCall.{PoolCall}
 use Rattle.transport_pool.specs.declared.entry.PoolCall.TheVariants as call
 use Rattle.gateway_session.specs.declared.loss.Lent.{Lent}
@@ -18,7 +19,7 @@ use Rattle.gateway_setup.specs.declared.event.Event.{Event}
 use Rattle.gateway_setup.specs.declared.event.Event.TheVariants as event
 use Rattle.gateway_wires.specs.Line.{flying_of}
 use Rattle.gateway_wires.specs.Wires.{WiresState, line_of, is_down}
-use Rattle.gateway_world.specs.State.{State, AppState, new_app}
+use Rattle.gateway_world.specs.State.{State, AppState, new_app, session_of}
 use Rattle.gateway_world.specs.Kept.{sendable_count, readable_on}
 use Rattle.gateway_world.specs.declared.app.App.{App}
 use Rattle.gateway_world.specs.declared.entry.Entry.{Entry}
@@ -81,6 +82,18 @@ pub record Shows {S U : Type 0} (setup : Setup) (apps : List (Option App)) (shar
   pub size : length apps ≡ 65
   pub each_app : (i : ℕ) → ShowsApp setup i (slice_index_or apps i None) (z.app i)
   pub common : ShowsCommon shared wires pool log z
+
+-- Every transport that is held or was dialled has a number that was drawn.
+pub record Draws {S U : Type 0} (z : State S U) : Type 0 where
+  pub pool : Holds z.pool
+  pub held : (i : ℕ) → HoldsBy (IsDrawn z.pool.drawn) (session_of z i).held
+  pub lines : (number : ℕ) → is_some (z.line number) ≡ true → number ≤ z.pool.drawn
+
+-- both of a world
+pub record IsShown {S U : Type 0} (setup : Setup) (apps : List (Option App)) (shared : S) (wires : WiresState U) (pool : PoolState)
+    (log : List Entry) (z : State S U) : Type 0 where
+  pub shows : Shows setup apps shared wires pool log z
+  pub draws : Draws z
 
 -- a world can begin with it
 pub record CanBegin (setup : Setup) : Type 0 where

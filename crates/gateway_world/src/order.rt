@@ -4,7 +4,7 @@ ghost use Rattle.std.specs.Prelude.{◌≡◌, find};
 ghost use Rattle.gateway_world.specs.State.{State};
 ghost use Rattle.gateway_world.specs.Can.{can};
 ghost use Rattle.gateway_world.specs.Order.{event_of, of_apps, of_kinds, next_event};
-ghost use Rattle.gateway_world.specs.Shows.{Shows};
+ghost use Rattle.gateway_world.specs.Shows.{Shows, Draws};
 
 use crate::app::App;
 use crate::can::MOST_TAKEN;
@@ -28,7 +28,7 @@ impl<G: Group + Drop> Common<G> {
     /// The first event that can be taken: a member acts on the transport of the lowest number; else an event of an application, of the
     /// first kind and then of the lowest number.
     pub(crate) fn next_event(&self, apps: &[Option<App>]) -> Option<Event>
-        ensures { (z : State G G.Unit) → Shows self.now.setup apps.now self.now.group self.now.wires self.now.pool self.now.log z
+        ensures { (z : State G G.Unit) → Shows self.now.setup apps.now self.now.group self.now.wires self.now.pool self.now.log z → Draws z
             → result ≡ next_event self.now.setup z }
     {
         match self.wires.first_flying() {

@@ -34,13 +34,13 @@ pub struct World<G: Group + Drop> {
 impl<G: Group + Drop> Model for World<G> {
     ghost use Rattle.std.specs.Prelude.{◌≡◌, true};
     ghost use Rattle.gateway_world.specs.Replay.{Record, state_of};
-    ghost use Rattle.gateway_world.specs.Shows.{Shows};
+    ghost use Rattle.gateway_world.specs.Shows.{IsShown};
 
     ghost Value = { Record G };
 
     ghost view = { λ w. record { setup = w.common.setup; first = w.first; happened = w.happened; whole = w.whole } };
 
-    ghost invariant = { λ w. w.whole ≡ true → Shows w.common.setup w.apps.items w.common.group w.common.wires w.common.pool w.common.log
+    ghost invariant = { λ w. w.whole ≡ true → IsShown w.common.setup w.apps.items w.common.group w.common.wires w.common.pool w.common.log
         (state_of G.meaning (record { setup = w.common.setup; first = w.first; happened = w.happened; whole = w.whole })) };
 }
 
