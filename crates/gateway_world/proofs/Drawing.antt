@@ -1,5 +1,5 @@
 -- Every transport that is held or was dialled has a number that was drawn.
-use Rattle.std.proofs.Common.{◌≡◌, ◌≤◌, ℕ, Bool, true, false, not, ◌&&◌, if◌then◌else◌, List, [], ◌∷◌, take, drop, Option, Some, None, refl, sym, ap, subst, ◌∙◌, arith}
+use Rattle.std.proofs.Common.{◌≡◌, ◌≤◌, ℕ, Bool, true, false, not, ◌&&◌, if◌then◌else◌, min, List, [], ◌∷◌, ◌++◌, take, drop, length, Option, Some, None, refl, sym, ap, subst, ◌∙◌, arith}
 use Rattle.std.specs.Prelude.{is_some, option_map, nat_le}
 use Rattle.std.proofs.lemmas.Bool.{false≢true}
 use Rattle.server_list.specs.Lists.{Listing}
@@ -23,11 +23,13 @@ use Rattle.gateway_session.specs.Steps.{after_app, after_lend, after_dialled, af
 use Rattle.gateway_setup.specs.declared.setup.Setup.{Setup}
 use Rattle.gateway_setup.specs.declared.event.Event.{Event}
 use Rattle.gateway_setup.specs.declared.event.Event.TheVariants as event
-use Rattle.gateway_wires.specs.Line.{LineState, is_dropped, with_sent, with_read, with_dropped, coming_of, fallen_with}
-use Rattle.gateway_world.specs.State.{State, AppState, start, session_of, with_app}
+use Rattle.gateway_wires.specs.Line.{LineState, is_dropped, with_sent, with_read, with_dropped, flying_of, coming_of, fallen_with}
+use Rattle.gateway_world.specs.State.{State, AppState, start, session_of, with_app, noting}
 use Rattle.gateway_world.specs.Asked.{called, list_told, pool_with_list, pool_with_loss, pool_asked, asked, asking, leaving, pool_left}
-use Rattle.gateway_world.specs.Events.{after_append, after_event, after_give_on, after_dial_on, after_send_on, after_back_on, after_act_on, lend_of, lent_of, with_unread, with_dialled, on_line}
-use Rattle.gateway_world.specs.Can.{is_of, needs, can}
+use Rattle.gateway_world.specs.Events.{after_append, after_event, after_take, after_say, after_end, after_cut, after_drop, after_down, after_up}
+use Rattle.gateway_world.specs.Events.{after_lend_event, after_give_on, after_dial_on, after_send_on, after_back_on, after_act_on, lend_of, lent_of, with_unread, with_said}
+use Rattle.gateway_world.specs.Events.{answers_now, with_dialled, on_line}
+use Rattle.gateway_world.specs.Can.{is_of, needs, can, really, sendable, readable, most_taken}
 use Rattle.gateway_world.specs.Shows.{HoldsBy, IsDrawn, Draws}
 use Rattle.gateway_world.specs.declared.kind.Kind.TheVariants as kind
 use Rattle.gateway_world.proofs.Fitting.{and_left, and_right}
@@ -159,8 +161,7 @@ module _ {S U : Type 0} (m : Meaning S U) (setup : Setup) (z : State S U) (draws
       (given_keeps (IsDrawn step.state.drawn) (session_of z i))
       (λ number there. let h = draws.lines number there in omega (arith, h, more))
 
-  lend_draws : (i : ℕ) → needs kind.Lend i z ≡ true → Draws (after_event m setup (event.Lend i) z).state
-  unfolding after_event
+  lend_draws : (i : ℕ) → needs kind.Lend i z ≡ true → Draws (after_lend_event i z).state
   lend_draws i yes =
       let c : PoolCall = lend_of i (session_of z i) in
       let step : Stepped = pool_step z.pool c in
@@ -191,36 +192,59 @@ module _ {S U : Type 0} (m : Meaning S U) (setup : Setup) (z : State S U) (draws
       go true e = rw e (record { pool = left; held = d.held; lines = d.lines })
       go false e = rw e (record { pool = d.pool; held = d.held; lines = d.lines })
 
-pub event_draws : {S U : Type 0} (m : Meaning S U) (setup : Setup) (z : State S U) → Draws z → (e : Event) → (needs_lend : (i : ℕ) → e ≡ event.Lend i → needs kind.Lend i z ≡ true)
-    → Draws (after_event m setup e z).state
-unfolding after_event
-event_draws m setup z draws (event.Take i n) lends =
-    asking_draws i (after_app (take n (z.app i).unread) (session_of z i)) (with_unread i (drop n (z.app i).unread) z) draws.pool
-    (put_held i (record (z.app i) { unread = drop n (z.app i).unread }) z refl draws.held)
-    (app_keeps (IsDrawn z.pool.drawn) (take n (z.app i).unread) (session_of z i) (draws.held i)) draws.lines
-event_draws m setup z draws (event.End i) lends =
-    left_draws m setup z draws i (asking i (after_app_end false (session_of z i)) z)
-    (step_draws m setup z draws i (after_app_end false (session_of z i)) (end_keeps (IsDrawn z.pool.drawn) false (session_of z i) (draws.held i)))
-event_draws m setup z draws (event.Lend i) lends = lend_draws m setup z draws i (lends i refl)
-event_draws m setup z draws (event.Dial i) lends = dial_draws m setup z draws i (session_of z i).held refl
-event_draws m setup z draws (event.Send i n) lends = send_draws m setup z draws i n (session_of z i).held
-event_draws m setup z draws (event.Act number n) lends = act_draws m setup z draws number n (z.line number) refl
-event_draws m setup z draws (event.Back i n) lends = back_draws m setup z draws i n (session_of z i).held
-event_draws m setup z draws (event.Cut i) lends =
-    step_draws m setup z draws i (after_lost why.Cut (session_of z i)) (lose_keeps (IsDrawn z.pool.drawn) why.Cut (session_of z i) (draws.held i))
-event_draws m setup z draws (event.Drop number) lends =
-    record { pool = draws.pool; held = draws.held; lines = changed_lines number z with_dropped draws.lines }
-event_draws m setup z draws (event.Give i) lends = give_draws m setup z draws i (session_of z i).held
-event_draws m setup z draws (event.Say i n) lends =
-    asking_draws i (after_said n (session_of z i)) _ draws.pool
-    (put_held i (record (z.app i) { sent = _ }) z refl draws.held)
-    (say_keeps (IsDrawn z.pool.drawn) n (session_of z i) (draws.held i)) draws.lines
-event_draws m setup z draws (event.Down member) lends = record {
-  pool = draws.pool;
-  held = draws.held;
-  lines = λ number there. draws.lines number (sym (some_mapped 0 z (fallen_with member) (z.line number)) ∙ there);
-}
-event_draws m setup z draws (event.Up member) lends = record { pool = draws.pool; held = draws.held; lines = draws.lines }
+  take_draws : (i n : ℕ) → Draws (after_take i n z).state
+  take_draws i n =
+      asking_draws i (after_app (take n (z.app i).unread) (session_of z i)) (with_unread i (drop n (z.app i).unread) z) draws.pool
+      (put_held i (record (z.app i) { unread = drop n (z.app i).unread }) z refl draws.held)
+      (app_keeps (IsDrawn z.pool.drawn) (take n (z.app i).unread) (session_of z i) (draws.held i)) draws.lines
+
+  say_draws : (i n : ℕ) → Draws (after_say i n z).state
+  say_draws i n =
+      asking_draws i (after_said n (session_of z i))
+      (noting (answers_now i (drop n (session_of z i).to_say)) (with_said i (take n (session_of z i).to_say) z)) draws.pool
+      (put_held i (record (z.app i) { sent = (z.app i).sent ++ take n (session_of z i).to_say }) z refl draws.held)
+      (say_keeps (IsDrawn z.pool.drawn) n (session_of z i) (draws.held i)) draws.lines
+
+  end_draws : (i : ℕ) → Draws (after_end i z).state
+  end_draws i = left_draws i (asking i (after_app_end false (session_of z i)) z)
+      (step_draws i (after_app_end false (session_of z i)) (end_keeps (IsDrawn z.pool.drawn) false (session_of z i) (draws.held i)))
+
+  cut_draws : (i : ℕ) → Draws (after_cut i z).state
+  cut_draws i = step_draws i (after_lost why.Cut (session_of z i)) (lose_keeps (IsDrawn z.pool.drawn) why.Cut (session_of z i) (draws.held i))
+
+  drop_draws : (number : ℕ) → Draws (after_drop number z).state
+  drop_draws number = record { pool = draws.pool; held = draws.held; lines = changed_lines number z with_dropped draws.lines }
+
+  down_draws : (member : ℕ) → Draws (after_down member z).state
+  down_draws member = record {
+    pool = draws.pool;
+    held = draws.held;
+    lines = λ number there. draws.lines number (sym (some_mapped number z (fallen_with member) (z.line number)) ∙ there);
+  }
+
+  up_draws : (member : ℕ) → Draws (after_up member z).state
+  up_draws member = record { pool = draws.pool; held = draws.held; lines = draws.lines }
+
+-- an event that can be taken, with the number of bytes that really moves
+pub event_draws : {S U : Type 0} (m : Meaning S U) (setup : Setup) (z : State S U) → Draws z → (e : Event) → can setup e z ≡ true
+    → Draws (after_event m setup (really e z) z).state
+unfolding after_event really can
+event_draws m setup z draws (event.Take i n) yes = take_draws m setup z draws i (min (min n most_taken) (length (z.app i).unread))
+event_draws m setup z draws (event.End i) yes = end_draws m setup z draws i
+event_draws m setup z draws (event.Lend i) yes = lend_draws m setup z draws i (and_left (needs kind.Lend i z) _ yes)
+event_draws m setup z draws (event.Dial i) yes = dial_draws m setup z draws i (session_of z i).held refl
+event_draws m setup z draws (event.Send i n) yes =
+    send_draws m setup z draws i (min n (length (sendable (session_of z i).held z))) (session_of z i).held
+event_draws m setup z draws (event.Act number n) yes =
+    act_draws m setup z draws number (min n (length (flying_of (z.line number)))) (z.line number) refl
+event_draws m setup z draws (event.Back i n) yes =
+    back_draws m setup z draws i (min n (length (readable (session_of z i).held z))) (session_of z i).held
+event_draws m setup z draws (event.Cut i) yes = cut_draws m setup z draws i
+event_draws m setup z draws (event.Drop number) yes = drop_draws m setup z draws number
+event_draws m setup z draws (event.Give i) yes = give_draws m setup z draws i (session_of z i).held
+event_draws m setup z draws (event.Say i n) yes = say_draws m setup z draws i (min n (length (session_of z i).to_say))
+event_draws m setup z draws (event.Down member) yes = down_draws m setup z draws member
+event_draws m setup z draws (event.Up member) yes = up_draws m setup z draws member
 
 pub append_draws : {S U : Type 0} (i : ℕ) (bytes : List ℕ) (z : State S U) → Draws z → Draws (after_append i bytes z)
 append_draws i bytes z draws = record {

@@ -16,3 +16,4 @@ pub mod Lending
 pub mod Drawing
 pub mod Nexting
 pub mod Appending
+pub mod Records
