@@ -4,3 +4,5 @@ pub mod Falling
 pub mod Dialling
 pub mod Rooms
 pub mod Sorting
+pub mod Flying
+pub mod Lowest

@@ -6,7 +6,7 @@ use Rattle.std.specs.List.{AllByRecursion}
 use Rattle.std.specs.BTreeSet.{BTreeSet}
 use Rattle.std.proofs.lemmas.Bool.{false≢true}
 use Rattle.link_ends.proofs.Lists.{all_set, all_get}
-use Rattle.gateway_wires.specs.Line.{LineState, with_sent, is_flying_on, is_empty}
+use Rattle.gateway_wires.specs.Line.{LineState, with_sent, with_dropped, is_flying_on, is_empty}
 use Rattle.gateway_wires.specs.Inside.{Dialled, on_dialled, fell_of, has_dropped, seen_line, flies_to, is_in, OfDialled, WasDialled, AreWires, Sorts, SortsOut, EntersIf, LeavesAtRest, AreSame}
 use Rattle.gateway_wires.proofs.Lines.{flies_after, Others}
 
@@ -40,12 +40,12 @@ module _ {U : Type 0} (fell : List ℕ) (flying : List (BTreeSet ℕ)) (lines : 
   kept_changed flying' x x' is member since sorts wires =
       let was : WasDialled count x = subst (OfDialled (WasDialled count)) (sym is) (all_get (OfDialled (WasDialled count)) lines number None wires.dialled tt) in
       record {
-    all_members = sorts.size ∙ wires.all_members;
-    dialled = all_set (OfDialled (WasDialled count)) lines number (Some x') wires.dialled
-        (record { before = subst (λ (n : ℕ). n < count) (sym since) was.before; member = subst (λ (n : ℕ). n < 33) (sym member) was.member });
-    fell_before = wires.fell_before;
-    flies = flies_after fell flying flying' lines number x x' is member sorts.this sorts.others wires.flies;
-  }
+        all_members = sorts.size ∙ wires.all_members;
+        dialled = all_set (OfDialled (WasDialled count)) lines number (Some x') wires.dialled
+            (record { before = subst (λ (n : ℕ). n < count) (sym since) was.before; member = subst (λ (n : ℕ). n < 33) (sym member) was.member });
+        fell_before = wires.fell_before;
+        flies = flies_after fell flying flying' lines number x x' is member sorts.this sorts.others wires.flies;
+      }
 
   -- whether it stands among those with bytes on their way
   pub in_place : (x : Dialled U) → Some x ≡ get_or lines number None → AreWires lines fell flying count
@@ -172,3 +172,28 @@ module _ {U : Type 0} (fell : List ℕ) (flying : List (BTreeSet ℕ)) (lines : 
           ap (λ (b : Bool). not (b || nat_lt x'.since (fell_of fell x'.line.member))) dropped
           ∙ ap (λ (n : ℕ). not (x.line.dropped || nat_lt n (fell_of fell x'.line.member))) since
           ∙ ap (λ (m : ℕ). not (x.line.dropped || nat_lt x.since (fell_of fell m))) member
+
+  -- ---- what changes no bytes on their way
+
+  pub kept_same : (x x' : Dialled U) → Some x ≡ get_or lines number None → AreWires lines fell flying count
+      → x'.line.member ≡ x.line.member → x'.since ≡ x.since → x'.line.dropped ≡ x.line.dropped → x'.line.flying ≡ x.line.flying
+      → AreWires (set lines number (Some x')) fell flying count
+  kept_same x x' is wires member since dropped flies = kept_changed flying x x' is member since (sorts_same x x' is wires
+      (ap (λ (bytes : List ℕ). not (has_dropped fell x') && not (is_empty bytes)) flies
+      ∙ ap (λ (b : Bool). not (b || nat_lt x'.since (fell_of fell x'.line.member)) && not (is_empty x.line.flying)) dropped
+      ∙ ap (λ (n : ℕ). not (x.line.dropped || nat_lt n (fell_of fell x'.line.member)) && not (is_empty x.line.flying)) since
+      ∙ ap (λ (m : ℕ). not (x.line.dropped || nat_lt x.since (fell_of fell m)) && not (is_empty x.line.flying)) member)) wires
+
+  -- its member drops it
+  pub kept_dropped : (flying' : List (BTreeSet ℕ)) (x : Dialled U) → Some x ≡ get_or lines number None → AreWires lines fell flying count
+      → Sorts x.line.member number false flying flying' → AreWires (set lines number (Some (on_dialled with_dropped x))) fell flying' count
+  kept_dropped flying' x is wires sorts = kept_changed flying' x (on_dialled with_dropped x) is refl refl sorts wires
+
+  -- memory ran out before anything was sent
+  pub same_sets : (flying' : List (BTreeSet ℕ)) → AreSame flying flying' → AreWires lines fell flying count → AreWires lines fell flying' count
+  same_sets flying' same wires = record {
+    all_members = same.size ∙ wires.all_members;
+    dialled = wires.dialled;
+    fell_before = wires.fell_before;
+    flies = λ member n in_range. same.numbers member n ∙ wires.flies member n in_range;
+  }

@@ -100,7 +100,13 @@ impl Scene {
         }
     }
 
-    fn happens(&mut self, word: &str, number: u32, count: u32, piece: &[u8]) -> Result<(), NoMemory> {
+    fn happens(
+        &mut self,
+        word: &str,
+        number: u32,
+        count: u32,
+        piece: &[u8],
+    ) -> Result<(), NoMemory> {
         let transport = u64::from(number);
         match word {
             "dial" => self.dial(transport, count),
@@ -159,7 +165,10 @@ impl Scene {
 
 /// Whether something is done.
 fn is_done(word: &str) -> bool {
-    matches!(word, "dial" | "send" | "act" | "read" | "drop" | "down" | "up")
+    matches!(
+        word,
+        "dial" | "send" | "act" | "read" | "drop" | "down" | "up"
+    )
 }
 
 /// Whether a round is answered as it says.
