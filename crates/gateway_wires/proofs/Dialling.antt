@@ -1,5 +1,6 @@
 -- All transports once one is dialled.
-use Rattle.std.proofs.Common.{◌≡◌, ◌≢◌, ◌<◌, ◌≤◌, ◌+◌, ◌-◌, ℕ, zero, suc, ◌==◌, Bool, true, false, not, ◌&&◌, ◌||◌, eqb, eqb-true, eq-eqb, List, [], ◌∷◌, ◌++◌, set, get_or, map, length, replicate}
+use Rattle.std.proofs.Common.{◌≡◌, ◌≢◌, ◌<◌, ◌≤◌, ◌+◌, ◌-◌, ℕ, zero, suc, ◌==◌, Bool, true, false, not, ◌&&◌, ◌||◌, eqb, eqb-true, eq-eqb, List, []}
+use Rattle.std.proofs.Common.{◌∷◌, ◌++◌, set, get_or, map, length, replicate}
 use Rattle.std.proofs.Common.{Option, Some, None, refl, sym, ap, subst, ◌∙◌, get_or-set_same, get_or-set_other, arith}
 use Rattle.std.specs.Prelude.{option_map, nat_lt}
 use Rattle.std.specs.List.{AllByRecursion}
@@ -11,7 +12,8 @@ use Rattle.link_ends.proofs.Lists.{all_set, all_get}
 use Rattle.plain_model.proofs.Puts.{by_equal}
 use Rattle.gateway_wires.specs.Line.{LineState, is_flying_on, is_empty}
 use Rattle.gateway_wires.specs.Wires.{WiresState, with_room, with_line}
-use Rattle.gateway_wires.specs.Inside.{Dialled, fell_of, has_dropped, seen_line, wires_in, flies_to, is_in, OfDialled, WasDialled, AreWires, Sorts, SortsOld, HasGrown, IsIn}
+use Rattle.gateway_wires.specs.Inside.{Dialled, fell_of, has_dropped, seen_line, wires_in, flies_to, is_in, OfDialled, WasDialled, AreWires, Sorts}
+use Rattle.gateway_wires.specs.Inside.{SortsOld, HasGrown, IsIn}
 use Rattle.gateway_wires.proofs.Reading.{any_room_same, room_same, has_room}
 use Rattle.gateway_wires.proofs.Falling.{both_off, unequal}
 

@@ -1,6 +1,7 @@
 -- What is seen of transports after one of them changes.
 use Rattle.std.proofs.Common.{◌≡◌, ◌≢◌, ◌<◌, ℕ, ◌==◌, Bool, true, false, ◌&&◌, ◌||◌, eqb, eqb-true, eq-eqb, leb, List, [], ◌∷◌, set, get_or, map, length}
-use Rattle.std.proofs.Common.{Result, Ok, Err, Option, Some, None, refl, sym, ap, subst, ◌∙◌, get_or-set_same, get_or-set_other, arith, true≢false, zero, suc}
+use Rattle.std.proofs.Common.{Result, Ok, Err, Option, Some, None, refl, sym, ap, subst, ◌∙◌, get_or-set_same, get_or-set_other, arith, true≢false}
+use Rattle.std.proofs.Common.{zero, suc}
 use Rattle.std.specs.Prelude.{option_map, slice_get, OnOk}
 use Rattle.std.specs.List.{AllByRecursion}
 use Rattle.std.specs.BTreeSet.{BTreeSet}

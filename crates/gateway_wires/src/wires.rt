@@ -1,7 +1,9 @@
 ghost use Rattle.std.specs.Prelude.{◌≡◌, ◌≤◌, ◌<◌, not, length, slice_index_or, option_map, option_copied, is_some, IfOk, OnOk, OnErr, None, true, false};
 ghost use Rattle.server_list.specs.Tried.{is_member};
-ghost use Rattle.gateway_wires.specs.Inside.{has_dropped, HasGrown, OfDialled, IsIn, SortsOld, EntersIf, AreNone, Sorts, AreSame, LeavesAtRest, IsLowest, lower};
-ghost use Rattle.gateway_wires.specs.Line.{dialled, with_sent, with_acted, with_read, with_dropped, is_dropped, is_empty, is_flying, stands, flying_of, coming_of, ran_of, wire};
+ghost use Rattle.gateway_wires.specs.Inside.{has_dropped, HasGrown, OfDialled, IsIn, SortsOld, EntersIf, AreNone, Sorts, AreSame, LeavesAtRest};
+ghost use Rattle.gateway_wires.specs.Inside.{IsLowest, lower};
+ghost use Rattle.gateway_wires.specs.Line.{dialled, with_sent, with_acted, with_read, with_dropped, is_dropped, is_empty, is_flying, stands};
+ghost use Rattle.gateway_wires.specs.Line.{flying_of, coming_of, ran_of, wire};
 ghost use Rattle.gateway_wires.specs.Wires.{no_wires, line_of, is_down, on_line, with_line, with_room, with_down, with_up, shared_by, IsFirstFlying};
 
 use crate::line::Line;

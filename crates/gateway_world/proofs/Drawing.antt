@@ -1,5 +1,6 @@
 -- Every transport that is held or was dialled has a number that was drawn.
-use Rattle.std.proofs.Common.{◌≡◌, ◌≤◌, ℕ, Bool, true, false, not, ◌&&◌, if◌then◌else◌, min, List, [], ◌∷◌, ◌++◌, take, drop, length, Option, Some, None, refl, sym, ap, subst, ◌∙◌, arith}
+use Rattle.std.proofs.Common.{◌≡◌, ◌≤◌, ℕ, Bool, true, false, not, ◌&&◌, if◌then◌else◌, min, List, [], ◌∷◌, ◌++◌, take, drop, length, Option, Some}
+use Rattle.std.proofs.Common.{None, refl, sym, ap, subst, ◌∙◌, arith}
 use Rattle.std.specs.Prelude.{is_some, option_map, nat_le}
 use Rattle.std.proofs.lemmas.Bool.{false≢true}
 use Rattle.server_list.specs.Lists.{Listing}
@@ -27,7 +28,8 @@ use Rattle.gateway_wires.specs.Line.{LineState, is_dropped, with_sent, with_read
 use Rattle.gateway_world.specs.State.{State, AppState, start, session_of, with_app, noting}
 use Rattle.gateway_world.specs.Asked.{called, list_told, pool_with_list, pool_with_loss, pool_asked, asked, asking, leaving, pool_left}
 use Rattle.gateway_world.specs.Events.{after_append, after_event, after_take, after_say, after_end, after_cut, after_drop, after_down, after_up}
-use Rattle.gateway_world.specs.Events.{after_lend_event, after_give_on, after_dial_on, after_send_on, after_back_on, after_act_on, lend_of, lent_of, with_unread, with_said}
+use Rattle.gateway_world.specs.Events.{after_lend_event, after_give_on, after_dial_on, after_send_on, after_back_on, after_act_on, lend_of, lent_of}
+use Rattle.gateway_world.specs.Events.{with_unread, with_said}
 use Rattle.gateway_world.specs.Events.{answers_now, with_dialled, on_line}
 use Rattle.gateway_world.specs.Can.{is_of, needs, can, really, sendable, readable, most_taken}
 use Rattle.gateway_world.specs.Shows.{HoldsBy, IsDrawn, Draws}

@@ -1,5 +1,6 @@
 -- Which transports the pool lends: those of members, with numbers that were drawn.
-use Rattle.std.proofs.Common.{◌≡◌, ◌+◌, ◌≤◌, ◌<◌, ℕ, ◌==◌, Bool, true, false, ◌&&◌, ◌||◌, if◌then◌else◌, length, List, [], ◌∷◌, Option, Some, None, refl, sym, ap, subst, ◌∙◌, arith}
+use Rattle.std.proofs.Common.{◌≡◌, ◌+◌, ◌≤◌, ◌<◌, ℕ, ◌==◌, Bool, true, false, ◌&&◌, ◌||◌, if◌then◌else◌, length, List, [], ◌∷◌, Option, Some, None}
+use Rattle.std.proofs.Common.{refl, sym, ap, subst, ◌∙◌, arith}
 use Rattle.std.specs.Prelude.{IfSome, nat_lt, nat_le, reverse, find}
 use Rattle.std.proofs.lemmas.Bool.{false≢true}
 use Rattle.std.proofs.lemmas.Bool.Decides.{nat_tests}
@@ -10,7 +11,8 @@ use Rattle.server_list.specs.Lists.{Listing}
 use Rattle.server_list.specs.Layout.{known_rows, unless_empty}
 use Rattle.transport_pool.specs.State.{PoolState, counts_of, is_among, is_waiting}
 use Rattle.transport_pool.specs.Sound.{times, IsSound, RowsAreSound}
-use Rattle.transport_pool.specs.Steps.{Stepped, pool_step, lend_step, lent_by, lent_out, must_wait, after_wait, after_leave, idle_of, learned, after_learn, is_newer, give_step, rested, most_idle}
+use Rattle.transport_pool.specs.Steps.{Stepped, pool_step, lend_step, lent_by, lent_out, must_wait, after_wait, after_leave, idle_of, learned}
+use Rattle.transport_pool.specs.Steps.{after_learn, is_newer, give_step, rested, most_idle}
 use Rattle.transport_pool.specs.declared.numbers.Numbered.{Numbered}
 use Rattle.transport_pool.specs.declared.entry.PoolCall.{PoolCall}
 use Rattle.transport_pool.specs.declared.entry.PoolCall.TheVariants as call
@@ -22,7 +24,8 @@ use Rattle.gateway_session.specs.Members.{IsMember, LendsMember}
 use Rattle.gateway_session.specs.declared.need.End.{End}
 use Rattle.gateway_session.specs.declared.need.Need.TheVariants as need
 use Rattle.gateway_session.specs.declared.held.Held.{Held}
-use Rattle.gateway_session.specs.Session.{Session, is_released, need_by_chain, need_by_talk, need_by_held, need_by_work, need_by_saying, need_ended, need_by_end, end_of}
+use Rattle.gateway_session.specs.Session.{Session, is_released, need_by_chain, need_by_talk, need_by_held, need_by_work, need_by_saying, need_ended}
+use Rattle.gateway_session.specs.Session.{need_by_end, end_of}
 use Rattle.gateway_session.specs.Session as session
 use Rattle.gateway_world.specs.Can.{is_of}
 use Rattle.gateway_world.specs.declared.kind.Kind.TheVariants as kind

@@ -1,5 +1,6 @@
 -- How a record grows, and a world with it.
-use Rattle.std.proofs.Common.{◌≡◌, ◌≢◌, ◌+◌, ◌-◌, ◌≤◌, ◌<◌, ℕ, zero, suc, Bool, true, false, if◌then◌else◌, List, [], ◌∷◌, ◌++◌, drop, length, Option, Some, None, refl, sym, ap, subst, ◌∙◌, arith}
+use Rattle.std.proofs.Common.{◌≡◌, ◌≢◌, ◌+◌, ◌-◌, ◌≤◌, ◌<◌, ℕ, zero, suc, Bool, true, false, if◌then◌else◌, List, [], ◌∷◌, ◌++◌, drop, length}
+use Rattle.std.proofs.Common.{Option, Some, None, refl, sym, ap, subst, ◌∙◌, arith}
 use Rattle.plain_model.specs.Group.{Meaning}
 use Rattle.gateway_setup.specs.declared.setup.Setup.{Setup}
 use Rattle.gateway_setup.specs.declared.event.Event.{Event}
@@ -18,7 +19,8 @@ use Rattle.gateway_world.specs.Shows.{ShowsApp, Shows, IsShown}
 use Rattle.gateway_world.proofs.Reads.{need_shown}
 use Rattle.gateway_world.proofs.Drawing.{event_draws, append_draws}
 use Rattle.gateway_world.specs.Can.{can, really}
-use Rattle.gateway_world.specs.Replay.{Record, after_happening, after_all, state_of, with_happening, appended, with_event, ran, ran_all, if_named, sent_to, need_of}
+use Rattle.gateway_world.specs.Replay.{Record, after_happening, after_all, state_of, with_happening, appended, with_event, ran, ran_all, if_named}
+use Rattle.gateway_world.specs.Replay.{sent_to, need_of}
 use Rattle.gateway_world.specs.Order.{Settled, one_more, settled_by, settled, next_event}
 
 module _ {S U : Type 0} (m : Meaning S U) where
