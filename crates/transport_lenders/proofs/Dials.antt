@@ -1,9 +1,10 @@
 -- Calls that lend nothing leave the count of dials.
-use Rattle.std.proofs.Common.{◌≡◌, ℕ, ◌==◌, Bool, true, false, cond, List, ◌∷◌, ◌++◌, length, nat_lt, Option, Some, None, refl}
+use Rattle.std.proofs.Common.{◌≡◌, ℕ, ◌==◌, Bool, true, false, cond, List, [], ◌∷◌, ◌++◌, length, nat_lt, refl, ap, ◌∙◌}
 use Rattle.server_list.specs.Lists.{Listing}
 use Rattle.transport_pool.specs.State.{PoolState, without, is_among}
 use Rattle.transport_pool.specs.Steps.{Stepped, oldest_of, most_idle, rested, pool_step}
 use Rattle.transport_pool.specs.Journal.{dials_after}
+use Rattle.transport_pool.specs.House.{HouseState}
 use Rattle.transport_pool.specs.declared.numbers.Numbered.{Numbered}
 use Rattle.transport_pool.specs.declared.entry.PoolCall.TheVariants.{GiveBack, Lost, Learn, Leave}
 use Rattle.transport_pool.specs.declared.entry.PoolAnswer.TheVariants.{Handed, Nothing}
@@ -42,3 +43,6 @@ learned_dials pool list count = refl
 pub left_dials : (pool : PoolState) (session count : ℕ) → dials_after (pool_step pool (Leave session)).answer count ≡ count
 unfolding pool_step
 left_dials pool session count = refl
+
+pub same_dials : {L : Type 0} (new now : HouseState L) (count : ℕ) → new ≡ now → now.decided.dials ≡ count → new.decided.dials ≡ count
+same_dials {L} new now count e same = ap (λ (house : HouseState L). house.decided.dials) e ∙ same
