@@ -1,0 +1,4 @@
+pub mod Feeds
+pub mod Goes
+pub mod Gripping
+pub mod Told
