@@ -32,6 +32,8 @@ pub(crate) fn settle<D: Lender>(session: &Session, lender: &mut D, lease: Lease<
 pub(crate) fn learn<D: Lender>(session: &mut Session, lender: &mut D)
     ensures session { session.new ≡ without_list session.old }
     ensures call { Learned D.knows D.learns (list_in session.old) lender.old lender.new }
+    ensures grip { grip_in session.new ≡ grip_in session.old }
+    ensures rests { rests_in session.new ≡ rests_in session.old }
     ensures dials { D.dials lender.new ≡ D.dials lender.old }
 {
     if let Some(bytes) = session.learned() {
