@@ -5,6 +5,7 @@ use server_list::{ServerList, Tried};
 use transport_pool::{Grant, House, Lend, Transport};
 
 /// A lender over a pool that one thread alone has.
+#[derive(Drop)]
 pub struct HouseLender<'a, L> {
     house: &'a mut House<L>,
 }

@@ -10,6 +10,7 @@ use transport_pool::{Grant, Lend, Transport};
 
 /// One thread's way to a pool that threads share. It waits while the pool would have it wait, and never answers Queue. It has a
 /// share of a ledger of the pool's calls, and one of a ledger of its lends that were answered Dial.
+#[derive(Drop)]
 pub struct LockLender<'a, R: Wait, L, X: Ledger, Y: Ledger> {
     rt: &'a R,
     hall: &'a Hall<L, X, Y>,

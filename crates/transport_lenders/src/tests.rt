@@ -1,4 +1,4 @@
-ghost use Rattle.std.specs.Prelude.{◌≡◌, ◌≤◌, ◌<◌, ◌×◌};
+ghost use Rattle.std.specs.Prelude.{◌≡◌, IfOk};
 
 use super::*;
 use access_handshake::{Mark, Stage};
@@ -54,7 +54,7 @@ fn visit<D: Lender<L = MemLink>>(lender: &mut D, session: u32, link: MemLink) ->
 }
 
 /// The same a hundred times. How often it had none.
-fn visit_often<D: Lender<L = MemLink>>(
+fn visit_often<D: Lender<L = MemLink> + Drop>(
     alloc: Global,
     lender: D,
     session: u32,
