@@ -5,397 +5,316 @@ ghost use Rattle.unit_segments.specs.Strip.{FitsAReply};
 
 use super::*;
 use ddm_codepoints::TypDef;
-use dss_frame::{Dss, DssList, FeedFault, Kind, Reader, Side, Why};
-use link_ends::{Octets, Sequence};
+use ddm_codepoints::code_point::ENDUOWRM;
+use dss_frame::{Dss, DssList, FeedFault, Kind, Placed, Reader, Side, Why};
+use hex_lines::read_hex;
+use link_ends::{NoMemory, Octets, Sequence};
 use std::alloc::Global;
 use std::test::Fail;
+
+// ---- rows
+
+// A row is a line of fields, parted by `|`. Bytes are spelled in hexadecimal digits, places and counts in decimal ones.
+
+/// The field before the first `|` of a line, and what stands behind it.
+fn field(line: &str) -> (&str, &str) {
+    match line.split_once('|') {
+        Some(fields) => fields,
+        None => (line, ""),
+    }
+}
+
+/// The bytes that digits spell; none of an empty word.
+fn bytes(alloc: Global, digits: &str) -> Result<Octets, NoMemory> {
+    match read_hex(alloc, digits.as_bytes())? {
+        Some(bytes) => Ok(bytes),
+        None => Ok(Octets::new(alloc)),
+    }
+}
+
+/// Whether digits spell these bytes.
+fn are(alloc: Global, seen: &[u8], digits: &str) -> Result<bool, NoMemory> {
+    let bytes = bytes(alloc, digits)?;
+    Ok(bytes.as_slice() == seen)
+}
+
+/// The number that decimal digits spell, or the greatest one where they spell none.
+fn number(digits: &str) -> u64 {
+    match u64::from_str_radix(digits, 10) {
+        Ok(number) => number,
+        Err(_) => u64::MAX,
+    }
+}
+
+// ---- reading
 
 /// How many bytes a chain may have.
 const LIMIT: u64 = 16_777_216;
 
-/// The chains that bytes are read as, how many of them at most 255, and the fault after them.
-fn read(alloc: Global, bytes: &[u8]) -> Result<(Vec<Chain>, Option<ChainFault>), Fail> {
-    let mut frames = Reader::new(alloc, Side::Requests, LIMIT);
-    frames.feed(bytes)?;
-    let mut reader = ChainReader::new(alloc);
-    let mut chains = Vec::new(alloc);
-    for _ in 0..bytes.len() {
-        match frames.take() {
-            Some(placed) => match reader.add(placed) {
-                Ok(Some(chain)) => chains.push(chain)?,
-                Ok(None) => {}
-                Err(fault) => return Ok((chains, Some(fault))),
-            },
-            None => break,
-        }
-    }
-    Ok((chains, None))
+/// The chains that DSSs are read as.
+#[derive(Drop)]
+struct Scene {
+    frames: Reader,
+    reader: ChainReader,
+    chains: Sequence<Chain>,
 }
 
-/// What stands before a fault, and the number of the DSS before it in its chain: nothing, a command of the same chain, and
-/// another chain.
-const FRONTS: [(&[u8], u16); 3] = [
-    (&[], 0),
-    (
-        &[0x00, 0x0A, 0xD0, 0x41, 0x00, 0x05, 0x00, 0x04, 0x10, 0x41],
-        5,
-    ),
-    (
-        &[0x00, 0x0A, 0xD0, 0x01, 0x00, 0x05, 0x00, 0x04, 0x10, 0x41],
-        0,
-    ),
-];
+fn nothing_read(alloc: Global) -> Scene {
+    Scene {
+        frames: Reader::new(alloc, Side::Requests, LIMIT),
+        reader: ChainReader::new(alloc),
+        chains: Sequence::new(alloc),
+    }
+}
+
+/// Keeps a chain, if one has ended.
+fn keep(scene: &mut Scene, chain: Option<Chain>) -> Result<(), NoMemory> {
+    match chain {
+        Some(chain) => scene.chains.push(chain),
+        None => Ok(()),
+    }
+}
+
+fn add(scene: &mut Scene, placed: Placed) -> Result<(), ChainFault> {
+    let chain = scene.reader.add(placed)?;
+    Ok(keep(scene, chain)?)
+}
+
+/// Adds the next DSS, if there is one.
+fn add_next(scene: &mut Scene) -> Result<(), ChainFault> {
+    match scene.frames.take() {
+        Some(placed) => add(scene, placed),
+        None => Ok(()),
+    }
+}
+
+/// Adds so many DSSs, or all up to a fault.
+fn add_all(scene: &mut Scene, count: usize) -> Result<(), ChainFault> {
+    for _ in 0..count {
+        add_next(scene)?;
+    }
+    Ok(())
+}
+
+/// Why bytes are no chains, where their frames are DSSs. Another fault is told as want of memory.
+fn fault_in(scene: &mut Scene, bytes: &[u8]) -> Option<ChainFault> {
+    if scene.frames.feed(bytes).is_ok() {
+        add_all(scene, bytes.len()).err()
+    } else {
+        Some(ChainFault::NoMemory)
+    }
+}
+
+// ---- faults
+
+/// What stands before a fault: the number of the DSS before it in its chain, and nothing, a command of the same chain, and another
+/// chain.
+const FRONTS: &str = "\
+0|
+5|000AD041000500041041
+0|000AD001000500041041";
+
+/// Bytes, the place of their fault from the first of them, what the fault is, and its number. Where a row has no number, that of the DSS
+/// before it is told. The faults of a frame stand before those of the chain.
+///
+/// Of frames: a length that is too short, another third byte; a reply, a kind that there isn't, the bit 80, and a DSS that isn't chained
+/// to one with the same number; a further segment that is too short. Of chains: an object where a request is due, a request where an
+/// object is, and an object with another number; an object without its four bytes, one with a length below them, and a parameter with
+/// such a length; an object past its holder, outermost, and a parameter of a command of access, and of one that ends a unit; a byte that
+/// is left over; a form of the length that isn't accepted, one that is for the outermost object alone, and a length above 33,554,432;
+/// ACCSEC without SECMEC, and with one of a byte; SECCHK without USRID, without SECMEC, and with one of a byte before one of two, of
+/// which the first counts; ACCRDB without TYPDEFNAM, and without RDBNAM.
+const FAULTS: &str = "\
+0005|0|short|
+000AD1|2|no D0|
+000AD002|3|format|
+000AD004|3|format|
+000AD081|3|format|
+000AD011|3|format|
+8008D001000900040002|8|continue|9
+000AD003000900042414|3|04|
+000AD05100090004200A000AD001000900041041|13|04|9
+000AD05100090004200A000AD003000800042414|14|04|8
+0008D00100090003|6|07|9
+000AD001000900031041|6|07|9
+000ED00100090008104100031147|10|07|9
+000AD001000900051041|6|08|9
+000ED00100090008104100051147|10|08|9
+000ED00100090008200E0005119F|10|08|9
+000BD00100090004104100|10|08|9
+000AD001000980001041|6|0C|9
+000ED00100090008104180041147|10|0C|9
+000ED00100098008200A02000001|6|0C|9
+000AD00100090004106D|6|0E|9
+000FD00100090009106D000511A203|6|0E|9
+0010D0010009000A106E000611A20003|6|0E|9
+000ED00100090008106E000411A0|6|0E|9
+0019D00100090013106E000511A203000611A20003000411A0|6|0E|9
+000ED00100090008200100042110|6|0E|9
+000ED0010009000820010004002F|6|0E|9";
+
+/// A fault that is awaited.
+#[derive(Drop)]
+struct Wanted<'a> {
+    place: u64,
+    what: &'a str,
+    number: u64,
+}
+
+/// The fault that a row says, so many bytes further on, behind a DSS with this number.
+fn fault_told<'a>(row: &'a str, further: usize, before: &'a str) -> Wanted<'a> {
+    let (place, rest) = field(row);
+    let (what, own) = field(rest);
+    let corr = if own.is_empty() { before } else { own };
+    Wanted {
+        place: number(place).saturating_add(further as u64),
+        what,
+        number: number(corr),
+    }
+}
+
+/// What is wrong with a frame, by its name.
+fn why_of(what: &str) -> Option<Why> {
+    match what {
+        "short" => Some(Why::Short),
+        "no D0" => Some(Why::NoD0),
+        "format" => Some(Why::Format),
+        "continue" => Some(Why::Continue),
+        _ => None,
+    }
+}
+
+/// Whether bytes are no frames, for this cause.
+fn are_no_frames(alloc: Global, bytes: &[u8], cause: Why, wanted: &Wanted<'_>) -> bool {
+    match Reader::new(alloc, Side::Requests, LIMIT).feed(bytes) {
+        Err(FeedFault::Frame { at, why, corr }) => {
+            at == wanted.place && why == cause && u64::from(corr) == wanted.number
+        }
+        _ => false,
+    }
+}
+
+/// Whether bytes are no chains, with this error.
+fn are_no_chains(alloc: Global, bytes: &[u8], wanted: &Wanted<'_>) -> bool {
+    let mut scene = nothing_read(alloc);
+    match fault_in(&mut scene, bytes) {
+        Some(ChainFault::Syntax { at, err, corr }) => {
+            at == wanted.place && is_error(err, wanted.what) && u64::from(corr) == wanted.number
+        }
+        _ => false,
+    }
+}
+
+/// Whether digits spell an error.
+fn is_error(error: u8, digits: &str) -> bool {
+    u8::from_str_radix(digits, 16) == Ok(error)
+}
+
+/// Whether bytes have this fault.
+fn have_fault(alloc: Global, bytes: &[u8], wanted: &Wanted<'_>) -> bool {
+    match why_of(wanted.what) {
+        Some(cause) => are_no_frames(alloc, bytes, cause, wanted),
+        None => are_no_chains(alloc, bytes, wanted),
+    }
+}
 
 /// The bytes behind those in front of them.
-fn behind(alloc: Global, front: &[u8], bytes: &[u8]) -> Result<Vec<u8>, Fail> {
-    let mut all = Vec::new(alloc);
-    all.extend_from_slice(front)?;
-    all.extend_from_slice(bytes)?;
+fn behind(alloc: Global, front: &str, digits: &str) -> Result<Octets, NoMemory> {
+    let mut all = bytes(alloc, front)?;
+    let own = bytes(alloc, digits)?;
+    all.push_all(own.as_slice())?;
     Ok(all)
 }
 
-/// Each fault at its place with its number: in the first chain, in the middle of one, and in a second one. A place is
-/// counted from the first byte of the rows' own, and where a row has no number, that of the DSS before it is told.
+/// Whether the bytes of a row are refused as it says, behind this front.
+fn is_refused(alloc: Global, front: &str, row: &str) -> Result<bool, NoMemory> {
+    let (before, front) = field(front);
+    let (digits, fault) = field(row);
+    let all = behind(alloc, front, digits)?;
+    let wanted = fault_told(fault, front.len() / 2, before);
+    Ok(have_fault(alloc, all.as_slice(), &wanted))
+}
+
+/// The number, from 1, of the first row whose bytes aren't refused as it says, behind this front; 0 where there is none.
+fn accepted_behind(alloc: Global, front: &str) -> Result<u32, NoMemory> {
+    let mut number: u32 = 0;
+    for row in FAULTS.lines() {
+        number = number.saturating_add(1);
+        if !is_refused(alloc, front, row)? {
+            return Ok(number);
+        }
+    }
+    Ok(0)
+}
+
+/// The same behind each front.
+fn accepted(alloc: Global) -> Result<u32, NoMemory> {
+    for front in FRONTS.lines() {
+        let number = accepted_behind(alloc, front)?;
+        if number > 0 {
+            return Ok(number);
+        }
+    }
+    Ok(0)
+}
+
+/// Each fault at its place with its number: in the first chain, in the middle of one, and in a second one.
 #[test]
 fn refuses(rt: HostRuntime) -> Result<(), Fail> {
-    let rows: [(&[u8], u64, u8, Option<u16>); 20] = [
-        // An object where a request is due, a request where an object is, and an object with another number.
-        (
-            &[0x00, 0x0A, 0xD0, 0x03, 0x00, 0x09, 0x00, 0x04, 0x24, 0x14],
-            3,
-            0x04,
-            None,
-        ),
-        (
-            &[
-                0x00, 0x0A, 0xD0, 0x51, 0x00, 0x09, 0x00, 0x04, 0x20, 0x0A, 0x00, 0x0A, 0xD0, 0x01,
-                0x00, 0x09, 0x00, 0x04, 0x10, 0x41,
-            ],
-            13,
-            0x04,
-            Some(9),
-        ),
-        (
-            &[
-                0x00, 0x0A, 0xD0, 0x51, 0x00, 0x09, 0x00, 0x04, 0x20, 0x0A, 0x00, 0x0A, 0xD0, 0x03,
-                0x00, 0x08, 0x00, 0x04, 0x24, 0x14,
-            ],
-            14,
-            0x04,
-            Some(8),
-        ),
-        // An object without its four bytes, one with a length below them, and a parameter with such a length.
-        (
-            &[0x00, 0x08, 0xD0, 0x01, 0x00, 0x09, 0x00, 0x03],
-            6,
-            0x07,
-            Some(9),
-        ),
-        (
-            &[0x00, 0x0A, 0xD0, 0x01, 0x00, 0x09, 0x00, 0x03, 0x10, 0x41],
-            6,
-            0x07,
-            Some(9),
-        ),
-        (
-            &[
-                0x00, 0x0E, 0xD0, 0x01, 0x00, 0x09, 0x00, 0x08, 0x10, 0x41, 0x00, 0x03, 0x11, 0x47,
-            ],
-            10,
-            0x07,
-            Some(9),
-        ),
-        // An object past its holder: outermost, and a parameter of a command of access, and of one that ends a unit.
-        (
-            &[0x00, 0x0A, 0xD0, 0x01, 0x00, 0x09, 0x00, 0x05, 0x10, 0x41],
-            6,
-            0x08,
-            Some(9),
-        ),
-        (
-            &[
-                0x00, 0x0E, 0xD0, 0x01, 0x00, 0x09, 0x00, 0x08, 0x10, 0x41, 0x00, 0x05, 0x11, 0x47,
-            ],
-            10,
-            0x08,
-            Some(9),
-        ),
-        (
-            &[
-                0x00, 0x0E, 0xD0, 0x01, 0x00, 0x09, 0x00, 0x08, 0x20, 0x0E, 0x00, 0x05, 0x11, 0x9F,
-            ],
-            10,
-            0x08,
-            Some(9),
-        ),
-        // A byte that is left over.
-        (
-            &[
-                0x00, 0x0B, 0xD0, 0x01, 0x00, 0x09, 0x00, 0x04, 0x10, 0x41, 0x00,
-            ],
-            10,
-            0x08,
-            Some(9),
-        ),
-        // A form of the length that isn't accepted, one that is for the outermost object alone, and a length above
-        // 33,554,432.
-        (
-            &[0x00, 0x0A, 0xD0, 0x01, 0x00, 0x09, 0x80, 0x00, 0x10, 0x41],
-            6,
-            0x0C,
-            Some(9),
-        ),
-        (
-            &[
-                0x00, 0x0E, 0xD0, 0x01, 0x00, 0x09, 0x00, 0x08, 0x10, 0x41, 0x80, 0x04, 0x11, 0x47,
-            ],
-            10,
-            0x0C,
-            Some(9),
-        ),
-        (
-            &[
-                0x00, 0x0E, 0xD0, 0x01, 0x00, 0x09, 0x80, 0x08, 0x20, 0x0A, 0x02, 0x00, 0x00, 0x01,
-            ],
-            6,
-            0x0C,
-            Some(9),
-        ),
-        // ACCSEC without SECMEC, and with one of a byte.
-        (
-            &[0x00, 0x0A, 0xD0, 0x01, 0x00, 0x09, 0x00, 0x04, 0x10, 0x6D],
-            6,
-            0x0E,
-            Some(9),
-        ),
-        (
-            &[
-                0x00, 0x0F, 0xD0, 0x01, 0x00, 0x09, 0x00, 0x09, 0x10, 0x6D, 0x00, 0x05, 0x11, 0xA2,
-                0x03,
-            ],
-            6,
-            0x0E,
-            Some(9),
-        ),
-        // SECCHK without USRID, without SECMEC, and with one of a byte before one of two, of which the first counts.
-        (
-            &[
-                0x00, 0x10, 0xD0, 0x01, 0x00, 0x09, 0x00, 0x0A, 0x10, 0x6E, 0x00, 0x06, 0x11, 0xA2,
-                0x00, 0x03,
-            ],
-            6,
-            0x0E,
-            Some(9),
-        ),
-        (
-            &[
-                0x00, 0x0E, 0xD0, 0x01, 0x00, 0x09, 0x00, 0x08, 0x10, 0x6E, 0x00, 0x04, 0x11, 0xA0,
-            ],
-            6,
-            0x0E,
-            Some(9),
-        ),
-        (
-            &[
-                0x00, 0x19, 0xD0, 0x01, 0x00, 0x09, 0x00, 0x13, 0x10, 0x6E, 0x00, 0x05, 0x11, 0xA2,
-                0x03, 0x00, 0x06, 0x11, 0xA2, 0x00, 0x03, 0x00, 0x04, 0x11, 0xA0,
-            ],
-            6,
-            0x0E,
-            Some(9),
-        ),
-        // ACCRDB without TYPDEFNAM, and without RDBNAM.
-        (
-            &[
-                0x00, 0x0E, 0xD0, 0x01, 0x00, 0x09, 0x00, 0x08, 0x20, 0x01, 0x00, 0x04, 0x21, 0x10,
-            ],
-            6,
-            0x0E,
-            Some(9),
-        ),
-        (
-            &[
-                0x00, 0x0E, 0xD0, 0x01, 0x00, 0x09, 0x00, 0x08, 0x20, 0x01, 0x00, 0x04, 0x00, 0x2F,
-            ],
-            6,
-            0x0E,
-            Some(9),
-        ),
-    ];
-    for (front, before) in FRONTS {
-        for (bytes, place, err, corr) in rows {
-            let (_, fault) = read(rt.alloc(), behind(rt.alloc(), front, bytes)?.as_slice())?;
-            let at = place.saturating_add(front.len() as u64);
-            let corr = corr.unwrap_or(before);
-            assert_eq!(rt; fault, Some(ChainFault::Syntax { at, err, corr }));
-        }
-    }
+    assert_eq!(rt; accepted(rt.alloc())?, 0);
     Ok(())
 }
 
-/// The faults of a frame stand before those of the chain.
-#[test]
-fn refuses_frames(rt: HostRuntime) -> Result<(), Fail> {
-    let rows: [(&[u8], u64, Why, Option<u16>); 7] = [
-        (&[0x00, 0x05], 0, Why::Short, None),
-        (&[0x00, 0x0A, 0xD1], 2, Why::NoD0, None),
-        // A reply, a kind that there isn't, the bit 80, and a DSS that isn't chained to one with the same number.
-        (&[0x00, 0x0A, 0xD0, 0x02], 3, Why::Format, None),
-        (&[0x00, 0x0A, 0xD0, 0x04], 3, Why::Format, None),
-        (&[0x00, 0x0A, 0xD0, 0x81], 3, Why::Format, None),
-        (&[0x00, 0x0A, 0xD0, 0x11], 3, Why::Format, None),
-        (
-            &[0x80, 0x08, 0xD0, 0x01, 0x00, 0x09, 0x00, 0x04, 0x00, 0x02],
-            8,
-            Why::Continue,
-            Some(9),
-        ),
-    ];
-    for (front, before) in FRONTS {
-        for (bytes, place, why, corr) in rows {
-            let all = behind(rt.alloc(), front, bytes)?;
-            let fault = Reader::new(rt.alloc(), Side::Requests, LIMIT).feed(all.as_slice());
-            let at = place.saturating_add(front.len() as u64);
-            let corr = corr.unwrap_or(before);
-            assert_eq!(rt; fault, Err(FeedFault::Frame { at, why, corr }));
-        }
+/// So many EXCSAT of one chain, which doesn't end.
+fn commands(alloc: Global, count: u32) -> Result<Octets, NoMemory> {
+    let command = bytes(alloc, "000AD041000100041041")?;
+    let mut chain = Octets::new(alloc);
+    for _ in 0..count {
+        chain.push_all(command.as_slice())?;
     }
-    Ok(())
+    Ok(chain)
 }
 
-/// Any number may follow in a chain; the last DSS may say that the chain goes on; data of a command that is passed, and
-/// objects, aren't looked into.
-#[test]
-fn accepts(rt: HostRuntime) -> Result<(), Fail> {
-    for bytes in [
-        [
-            0x00, 0x0A, 0xD0, 0x41, 0x00, 0x05, 0x00, 0x04, 0x10, 0x41, 0x00, 0x0A, 0xD0, 0x21,
-            0x00, 0x02, 0x00, 0x04, 0x20, 0x0E,
-        ]
-        .as_slice(),
-        [
-            0x00, 0x0F, 0xD0, 0x01, 0x00, 0x01, 0x00, 0x09, 0x20, 0x0A, 0x00, 0x03, 0x11, 0x47,
-            0x00,
-        ]
-        .as_slice(),
-        [
-            0x00, 0x0A, 0xD0, 0x51, 0x00, 0x01, 0x00, 0x04, 0x20, 0x0A, 0x00, 0x07, 0xD0, 0x03,
-            0x00, 0x01, 0xFF,
-        ]
-        .as_slice(),
-    ] {
-        let (read, fault) = read(rt.alloc(), bytes)?;
-        assert_eq!(rt; read.len(), 1);
-        assert_eq!(rt; fault, None);
-    }
-    Ok(())
+/// Whether so many commands of one chain are one more than it may have, which begins at this place.
+fn are_too_many(alloc: Global, count: u32, place: u64) -> Result<bool, NoMemory> {
+    let chain = commands(alloc, count)?;
+    let mut scene = nothing_read(alloc);
+    let fault = fault_in(&mut scene, chain.as_slice());
+    let wanted = ChainFault::TooMany { at: place, corr: 1 };
+    Ok(fault == Some(wanted) && scene.chains.is_empty())
 }
 
 /// A chain has 4,096 commands at most.
 #[test]
 fn counts_commands(rt: HostRuntime) -> Result<(), Fail> {
-    let mut bytes = Vec::new(rt.alloc());
-    for _ in 0..4097 {
-        bytes.extend_from_slice(&[0x00, 0x0A, 0xD0, 0x41, 0x00, 0x01, 0x00, 0x04, 0x10, 0x41])?;
-    }
-    let (read, fault) = read(rt.alloc(), bytes.as_slice())?;
-    assert_eq!(rt; read.len(), 0);
-    assert_eq!(rt;
-        fault,
-        Some(ChainFault::TooMany {
-            at: 40_960,
-            corr: 1
-        })
-    );
+    assert!(rt; are_too_many(rt.alloc(), 4097, 40_960)?);
     Ok(())
 }
 
-/// EXCSAT, EXCSQLIMM with an object, RDBCMM, OPNQRY and a command that isn't known.
-#[test]
-fn cuts(rt: HostRuntime) -> Result<(), Fail> {
-    let bytes = [
-        0x00, 0x0A, 0xD0, 0x41, 0x00, 0x01, 0x00, 0x04, 0x10, 0x41, 0x00, 0x0A, 0xD0, 0x51, 0x00,
-        0x02, 0x00, 0x04, 0x20, 0x0A, 0x00, 0x07, 0xD0, 0x43, 0x00, 0x02, 0xFF, 0x00, 0x0A, 0xD0,
-        0x61, 0x00, 0x03, 0x00, 0x04, 0x20, 0x0E, 0x00, 0x0A, 0xD0, 0x41, 0x00, 0x04, 0x00, 0x04,
-        0x20, 0x0C, 0x00, 0x0A, 0xD0, 0x01, 0x00, 0x05, 0x00, 0x04, 0xFF, 0xFF,
-    ];
-    let (read, fault) = read(rt.alloc(), &bytes)?;
-    assert_eq!(rt; fault, None);
-    let segments = cut(rt.alloc(), read.get(0).ok_or("a chain")?)?;
-    assert_eq!(rt; segments.len(), 4);
-    let run = segments.get(1).ok_or("a segment")?.commands();
-    assert_eq!(rt; run.len(), 2);
-    let first = run.get(0).ok_or("a command")?;
-    assert_eq!(rt;
-        (first.code, first.corr, first.go_on, first.at),
-        (0x200A, 2, false, 10)
-    );
-    assert_eq!(rt; first.body.as_slice(), [0x00, 0x04, 0x20, 0x0A].as_slice());
-    assert_eq!(rt;
-        first.objects.get(0).ok_or("an object")?.as_slice(),
-        [0xFF].as_slice()
-    );
-    let last = run.get(1).ok_or("a command")?;
-    assert_eq!(rt;
-        (last.code, last.corr, last.go_on, last.at),
-        (0x200E, 3, true, 27)
-    );
-    Ok(())
+// ---- chains, segments and replies
+
+/// The segments of the chain that digits spell; none where they spell none.
+fn segments_of(alloc: Global, digits: &str) -> Result<SegmentList, NoMemory> {
+    let chain = bytes(alloc, digits)?;
+    let mut scene = nothing_read(alloc);
+    let fault = fault_in(&mut scene, chain.as_slice());
+    segments_in(alloc, &scene, fault.is_none())
 }
 
-/// The replies to a commit that a member sends with other bits are one chain.
-#[test]
-fn joins(rt: HostRuntime) -> Result<(), Fail> {
-    let message = [
-        0x00, 0x0F, 0x22, 0x0C, 0x00, 0x06, 0x11, 0x49, 0x00, 0x04, 0x00, 0x05, 0x21, 0x15, 0x01,
-    ];
-    let mut replies: DssList = Sequence::new(rt.alloc());
-    for (kind, body) in [
-        (Kind::Reply, message.as_slice()),
-        (Kind::Object, [0x00, 0x05, 0x24, 0x08, 0xFF].as_slice()),
-    ] {
-        replies.push(Dss {
-            kind,
-            chained: false,
-            same: false,
-            go_on: true,
-            corr: 1,
-            body: Octets::of(rt.alloc(), body)?,
-        })?;
+/// The segments of the first chain, where there is no fault.
+fn segments_in(alloc: Global, scene: &Scene, is_sound: bool) -> Result<SegmentList, NoMemory> {
+    match scene.chains.get(0) {
+        Some(chain) if is_sound => cut(alloc, chain),
+        _ => Ok(Sequence::new(alloc)),
     }
-    let bytes = join_replies(rt.alloc(), &replies)?;
-    assert_eq!(rt;
-        bytes.as_slice(),
-        [
-            0x00, 0x15, 0xD0, 0x52, 0x00, 0x01, 0x00, 0x0F, 0x22, 0x0C, 0x00, 0x06, 0x11, 0x49,
-            0x00, 0x04, 0x00, 0x05, 0x21, 0x15, 0x01, 0x00, 0x0B, 0xD0, 0x03, 0x00, 0x01, 0x00,
-            0x05, 0x24, 0x08, 0xFF,
-        ]
-        .as_slice()
-    );
-    Ok(())
 }
 
-/// The first segment of the chain that bytes are.
-fn segments_of(alloc: Global, bytes: &[u8]) -> Result<SegmentList, Fail> {
-    let (chains, _) = read(alloc, bytes)?;
-    Ok(cut(alloc, chains.get(0).ok_or("a chain")?)?)
-}
-
-/// Replies with number 1, each a kind and a body.
-fn replies(alloc: Global, bodies: &[(Kind, &[u8])]) -> Result<DssList, Fail> {
-    let mut replies: DssList = Sequence::new(alloc);
-    for (kind, body) in bodies {
-        replies.push(Dss {
-            kind: *kind,
-            chained: false,
-            same: false,
-            go_on: false,
-            corr: 1,
-            body: Octets::of(alloc, body)?,
-        })?;
-    }
-    Ok(replies)
+/// Whether digits spell one chain.
+fn is_chain(alloc: Global, digits: &str) -> Result<bool, NoMemory> {
+    let chain = bytes(alloc, digits)?;
+    let mut scene = nothing_read(alloc);
+    let fault = fault_in(&mut scene, chain.as_slice());
+    Ok(fault.is_none() && scene.chains.len() == 1)
 }
 
 /// Whether each command's body is no longer than a chain may be.
@@ -418,306 +337,458 @@ fn are_replies(replies: &[Dss]) -> bool
     }
 }
 
-/// A segment as a member gets it.
-fn asked(alloc: Global, segment: &Segment) -> Result<Octets, Fail> {
+/// A segment as a member gets it; nothing where a command is too long.
+fn asked(alloc: Global, segment: &Segment) -> Result<Octets, NoMemory> {
     if are_commands(segment.commands().as_slice()) {
-        Ok(ask_release(alloc, segment)?)
+        ask_release(alloc, segment)
     } else {
-        Err(Fail::from("a command is too long"))
+        Ok(Octets::new(alloc))
     }
 }
 
-/// What replies to a segment come to.
-fn stripped(alloc: Global, replies: &DssList, segment: &Segment) -> Result<Stripped, Fail> {
-    if are_replies(replies.as_slice()) {
-        Ok(strip(alloc, replies, segment)?)
+/// Whether a member gets a segment so.
+fn is_asked(alloc: Global, segment: &Segment, digits: &str) -> Result<bool, NoMemory> {
+    let asked = asked(alloc, segment)?;
+    are(alloc, asked.as_slice(), digits)
+}
+
+/// Whether a member gets the first segment of a chain so.
+fn asks(alloc: Global, row: &str) -> Result<bool, NoMemory> {
+    let (chain, wanted) = field(row);
+    let segments = segments_of(alloc, chain)?;
+    match segments.get(0) {
+        Some(segment) => is_asked(alloc, segment, wanted),
+        None => Ok(false),
+    }
+}
+
+/// A reply with number 1, of a message where its body is ENDUOWRM, and else of data.
+fn reply(body: Octets, go_on: bool) -> Dss {
+    let kind = if code_of(body.as_slice()) == ENDUOWRM {
+        Kind::Reply
     } else {
-        Err(Fail::from("a reply is too long"))
+        Kind::Object
+    };
+    Dss {
+        kind,
+        chained: false,
+        same: false,
+        go_on,
+        corr: 1,
+        body,
     }
 }
 
-/// RDBCMM and RDBRLLBCK alone; an asking of the application's own, around another parameter; a command with an object before
-/// one that ends the unit.
-#[test]
-fn asks(rt: HostRuntime) -> Result<(), Fail> {
-    for (bytes, wanted) in [
-        (
-            [0x00, 0x0A, 0xD0, 0x01, 0x00, 0x05, 0x00, 0x04, 0x20, 0x0E].as_slice(),
-            [
-                0x00, 0x14, 0xD0, 0x01, 0x00, 0x01, 0x00, 0x0E, 0x20, 0x0E, 0x00, 0x05, 0x11, 0x9F,
-                0xF2, 0x00, 0x05, 0x21, 0x0E, 0xF1,
-            ]
-            .as_slice(),
-        ),
-        (
-            [0x00, 0x0A, 0xD0, 0x21, 0x00, 0x05, 0x00, 0x04, 0x20, 0x0F].as_slice(),
-            [
-                0x00, 0x14, 0xD0, 0x01, 0x00, 0x01, 0x00, 0x0E, 0x20, 0x0F, 0x00, 0x05, 0x11, 0x9F,
-                0xF2, 0x00, 0x05, 0x21, 0x0E, 0xF1,
-            ]
-            .as_slice(),
-        ),
-        (
-            [
-                0x00, 0x19, 0xD0, 0x01, 0x00, 0x05, 0x00, 0x13, 0x20, 0x0E, 0x00, 0x05, 0x11, 0x9F,
-                0xF1, 0x00, 0x05, 0x21, 0x10, 0xC1, 0x00, 0x05, 0x21, 0x0E, 0xF2,
-            ]
-            .as_slice(),
-            [
-                0x00, 0x19, 0xD0, 0x01, 0x00, 0x01, 0x00, 0x13, 0x20, 0x0E, 0x00, 0x05, 0x21, 0x10,
-                0xC1, 0x00, 0x05, 0x11, 0x9F, 0xF2, 0x00, 0x05, 0x21, 0x0E, 0xF1,
-            ]
-            .as_slice(),
-        ),
-        (
-            [
-                0x00, 0x0A, 0xD0, 0x51, 0x00, 0x05, 0x00, 0x04, 0x20, 0x0A, 0x00, 0x07, 0xD0, 0x63,
-                0x00, 0x05, 0xFF, 0x00, 0x0A, 0xD0, 0x01, 0x00, 0x05, 0x00, 0x04, 0x20, 0x0E,
-            ]
-            .as_slice(),
-            [
-                0x00, 0x0A, 0xD0, 0x51, 0x00, 0x01, 0x00, 0x04, 0x20, 0x0A, 0x00, 0x07, 0xD0, 0x63,
-                0x00, 0x01, 0xFF, 0x00, 0x14, 0xD0, 0x01, 0x00, 0x02, 0x00, 0x0E, 0x20, 0x0E, 0x00,
-                0x05, 0x11, 0x9F, 0xF2, 0x00, 0x05, 0x21, 0x0E, 0xF1,
-            ]
-            .as_slice(),
-        ),
-    ] {
-        let segments = segments_of(rt.alloc(), bytes)?;
-        let sent = asked(rt.alloc(), segments.get(0).ok_or("a segment")?)?;
-        assert_eq!(rt; sent.as_slice(), wanted);
+fn add_reply(
+    alloc: Global,
+    replies: &mut DssList,
+    digits: &str,
+    go_on: bool,
+) -> Result<(), NoMemory> {
+    let body = bytes(alloc, digits)?;
+    replies.push(reply(body, go_on))
+}
+
+/// The replies with these bodies, parted by `;`, all of which have this bit.
+fn replies_of(alloc: Global, bodies: &str, go_on: bool) -> Result<DssList, NoMemory> {
+    let mut replies = Sequence::new(alloc);
+    for digits in bodies.split(';') {
+        add_reply(alloc, &mut replies, digits, go_on)?;
     }
+    Ok(replies)
+}
+
+/// Whether replies that say that the chain goes on are one chain so.
+fn joins(alloc: Global, row: &str) -> Result<bool, NoMemory> {
+    let (bodies, wanted) = field(row);
+    let replies = replies_of(alloc, bodies, true)?;
+    let joined = join_replies(alloc, &replies)?;
+    are(alloc, joined.as_slice(), wanted)
+}
+
+/// Whether there are so many replies, of which the one at this place, from 0, has number 5 and this body.
+fn has_reply(alloc: Global, replies: &DssList, row: &str) -> Result<bool, NoMemory> {
+    let (count, rest) = field(row);
+    let (place, body) = field(rest);
+    if replies.len() as u64 != number(count) {
+        return Ok(false);
+    }
+    let place = if place == "0" { 0 } else { 1 };
+    match replies.get(place) {
+        Some(reply) if reply.corr == 5 => are(alloc, reply.body.as_slice(), body),
+        _ => Ok(false),
+    }
+}
+
+/// Whether the unit of work ended, was committed and released, and the rest of the chain isn't run, as these words say.
+fn ends(stripped: &Stripped, words: &str) -> bool {
+    let (committed, granted, stop) = match words {
+        "granted" => (true, true, false),
+        "committed" => (true, false, false),
+        "stopped" => (false, false, true),
+        _ => (false, false, false),
+    };
+    stripped.ended
+        && stripped.committed == committed
+        && stripped.granted == granted
+        && stripped.stop == stop
+}
+
+/// Whether these data, if any, were taken out once; none of them where there are no digits.
+fn is_taken(
+    alloc: Global,
+    count: usize,
+    data: Option<&Octets>,
+    digits: &str,
+) -> Result<bool, NoMemory> {
+    match data {
+        Some(data) => Ok(count == 1 && are(alloc, data.as_slice(), digits)?),
+        None => Ok(count == 0 && digits.is_empty()),
+    }
+}
+
+/// Whether the SET statement, the list and a reply are as a row says.
+fn takes(alloc: Global, stripped: &Stripped, row: &str) -> Result<bool, NoMemory> {
+    let (set, rest) = field(row);
+    let sets = &stripped.sets;
+    if is_taken(alloc, sets.len(), sets.get(0), set)? {
+        lists(alloc, stripped, rest)
+    } else {
+        Ok(false)
+    }
+}
+
+/// Whether the list and a reply are as a row says.
+fn lists(alloc: Global, stripped: &Stripped, row: &str) -> Result<bool, NoMemory> {
+    let (list, reply) = field(row);
+    let count = usize::from(stripped.list.is_some());
+    if is_taken(alloc, count, stripped.list.as_ref(), list)? {
+        has_reply(alloc, &stripped.replies, reply)
+    } else {
+        Ok(false)
+    }
+}
+
+/// Whether replies to a segment come to what a row says.
+fn comes_to(
+    alloc: Global,
+    replies: &DssList,
+    segment: &Segment,
+    row: &str,
+) -> Result<bool, NoMemory> {
+    if !are_replies(replies.as_slice()) {
+        return Ok(false);
+    }
+    let (words, rest) = field(row);
+    let stripped = strip(alloc, replies, segment)?;
+    if ends(&stripped, words) {
+        takes(alloc, &stripped, rest)
+    } else {
+        Ok(false)
+    }
+}
+
+/// Whether replies to the first segment of a chain come to what a row says.
+fn answers(alloc: Global, chain: &str, replies: &DssList, row: &str) -> Result<bool, NoMemory> {
+    let segments = segments_of(alloc, chain)?;
+    match segments.get(0) {
+        Some(segment) => comes_to(alloc, replies, segment, row),
+        None => Ok(false),
+    }
+}
+
+fn strips(alloc: Global, row: &str) -> Result<bool, NoMemory> {
+    let (chain, rest) = field(row);
+    let (bodies, wanted) = field(rest);
+    let replies = replies_of(alloc, bodies, false)?;
+    answers(alloc, chain, &replies, wanted)
+}
+
+/// Whether a row is true.
+fn holds(alloc: Global, row: &str) -> Result<bool, NoMemory> {
+    let (what, rest) = field(row);
+    match what {
+        "chain" => is_chain(alloc, rest),
+        "asks" => asks(alloc, rest),
+        "joins" => joins(alloc, rest),
+        _ => strips(alloc, rest),
+    }
+}
+
+/// The number, from 1, of the first of these rows that isn't true; 0 where there is none.
+fn refuted(alloc: Global, rows: &str) -> Result<u32, NoMemory> {
+    let mut number: u32 = 0;
+    for row in rows.lines() {
+        number = number.saturating_add(1);
+        if !holds(alloc, row)? {
+            return Ok(number);
+        }
+    }
+    Ok(0)
+}
+
+/// Any number may follow in a chain; the last DSS may say that the chain goes on; data of a command that is passed, and objects, aren't
+/// looked into.
+///
+/// What a chain's first segment is sent as: RDBCMM and RDBRLLBCK alone; an asking of the application's own, around another parameter; a
+/// command with an object before one that ends the unit.
+///
+/// What replies are as one chain: those to a commit that a member sends with other bits.
+///
+/// Replies to RDBCMM with number 5, how the unit ended, the SET statement and the list that are taken out, how many replies there are, and
+/// which of them has this body: granted, as a member sends it; not granted, without RLSCONV, and with another value before the one that
+/// grants; an error; parameters that are no objects, behind one that would grant; data to the end, which are written anew with their
+/// length. A list of members is taken out; of SQLSTT objects those behind the SQLCARD are; a body that is no object stays.
+const ROWS: &str = "\
+chain|000AD041000500041041000AD02100020004200E
+chain|000FD00100010009200A0003114700
+chain|000AD05100010004200A0007D0030001FF
+asks|000AD00100050004200E|0014D0010001000E200E0005119FF20005210EF1
+asks|000AD02100050004200F|0014D0010001000E200F0005119FF20005210EF1
+asks|0019D00100050013200E0005119FF100052110C10005210EF2|0019D00100010013200E00052110C10005119FF20005210EF1
+asks|000AD05100050004200A0007D0630005FF000AD00100050004200E|\
+000AD05100010004200A0007D0630001FF0014D0010002000E200E0005119FF20005210EF1
+joins|000F220C0006114900040005211501;00052408FF|\
+0015D0520001000F220C0006114900040005211501000BD003000100052408FF
+strips|000AD00100050004200E|0014220C00061149000400052115010005119FF2;00052408FF|granted|||\
+2|0|000F220C0006114900040005211501
+strips|000AD00100050004200E|000F220C0006114900040005211502;00052408FF|ended|||\
+2|0|000F220C0006114900040005211502
+strips|000AD00100050004200E|000E220C0005119FF10005119FF2;00052408FF|ended|||2|0|0004220C
+strips|000AD00100050004200E|000A220C000611490008;00052408FF|stopped|||2|0|000A220C000611490008
+strips|000AD00100050004200E|000D220C0005119FF200031149;00052408FF|ended|||2|0|000D220C0005119FF200031149
+strips|000AD00100050004200E|8004220C0005211501;00052408FF|committed|||2|0|0009220C0005211501
+strips|000AD02100050004200E|\
+000D24140000000003C17EC2FF;0012220C000E244E01020002000500010000;00052408FF;000D24140000000003C17EC2FF;00|ended|\
+0000000003C17EC2FF|01020002000500010000|4|1|0004220C";
+
+#[test]
+fn rows_hold(rt: HostRuntime) -> Result<(), Fail> {
+    assert_eq!(rt; refuted(rt.alloc(), ROWS)?, 0);
     Ok(())
 }
 
-/// The replies to RDBCMM with number 5: what is joined of them, and whether the unit ended, was committed and released, and the
-/// rest of the chain isn't run.
-#[test]
-fn strips(rt: HostRuntime) -> Result<(), Fail> {
-    let commit = [0x00, 0x0A, 0xD0, 0x01, 0x00, 0x05, 0x00, 0x04, 0x20, 0x0E];
-    let segments = segments_of(rt.alloc(), &commit)?;
-    let segment = segments.get(0).ok_or("a segment")?;
-    let null = [0x00, 0x05, 0x24, 0x08, 0xFF];
-    for (message, kept, committed, granted, stop) in [
-        // Granted, as a member sends it.
-        (
-            [
-                0x00, 0x14, 0x22, 0x0C, 0x00, 0x06, 0x11, 0x49, 0x00, 0x04, 0x00, 0x05, 0x21, 0x15,
-                0x01, 0x00, 0x05, 0x11, 0x9F, 0xF2,
-            ]
-            .as_slice(),
-            [
-                0x00, 0x0F, 0x22, 0x0C, 0x00, 0x06, 0x11, 0x49, 0x00, 0x04, 0x00, 0x05, 0x21, 0x15,
-                0x01,
-            ]
-            .as_slice(),
-            true,
-            true,
-            false,
-        ),
-        // Not granted: without RLSCONV, and with another value before the one that grants.
-        (
-            [
-                0x00, 0x0F, 0x22, 0x0C, 0x00, 0x06, 0x11, 0x49, 0x00, 0x04, 0x00, 0x05, 0x21, 0x15,
-                0x02,
-            ]
-            .as_slice(),
-            [
-                0x00, 0x0F, 0x22, 0x0C, 0x00, 0x06, 0x11, 0x49, 0x00, 0x04, 0x00, 0x05, 0x21, 0x15,
-                0x02,
-            ]
-            .as_slice(),
-            false,
-            false,
-            false,
-        ),
-        (
-            [
-                0x00, 0x0E, 0x22, 0x0C, 0x00, 0x05, 0x11, 0x9F, 0xF1, 0x00, 0x05, 0x11, 0x9F, 0xF2,
-            ]
-            .as_slice(),
-            [0x00, 0x04, 0x22, 0x0C].as_slice(),
-            false,
-            false,
-            false,
-        ),
-        // An error.
-        (
-            [0x00, 0x0A, 0x22, 0x0C, 0x00, 0x06, 0x11, 0x49, 0x00, 0x08].as_slice(),
-            [0x00, 0x0A, 0x22, 0x0C, 0x00, 0x06, 0x11, 0x49, 0x00, 0x08].as_slice(),
-            false,
-            false,
-            true,
-        ),
-        // Parameters that are no objects, behind one that would grant.
-        (
-            [
-                0x00, 0x0D, 0x22, 0x0C, 0x00, 0x05, 0x11, 0x9F, 0xF2, 0x00, 0x03, 0x11, 0x49,
-            ]
-            .as_slice(),
-            [
-                0x00, 0x0D, 0x22, 0x0C, 0x00, 0x05, 0x11, 0x9F, 0xF2, 0x00, 0x03, 0x11, 0x49,
-            ]
-            .as_slice(),
-            false,
-            false,
-            false,
-        ),
-        // Data to the end are written anew with their length.
-        (
-            [0x80, 0x04, 0x22, 0x0C, 0x00, 0x05, 0x21, 0x15, 0x01].as_slice(),
-            [0x00, 0x09, 0x22, 0x0C, 0x00, 0x05, 0x21, 0x15, 0x01].as_slice(),
-            true,
-            false,
-            false,
-        ),
-    ] {
-        let replies = replies(
-            rt.alloc(),
-            &[(Kind::Reply, message), (Kind::Object, null.as_slice())],
-        )?;
-        let stripped = stripped(rt.alloc(), &replies, segment)?;
-        assert_eq!(rt; stripped.replies.len(), 2);
-        let first = stripped.replies.get(0).ok_or("a reply")?;
-        assert_eq!(rt; first.corr, 5);
-        assert_eq!(rt; first.body.as_slice(), kept);
-        assert_eq!(rt;
-            (
-                stripped.ended,
-                stripped.committed,
-                stripped.granted,
-                stripped.stop
-            ),
-            (true, committed, granted, stop)
-        );
-        assert!(rt; stripped.list.is_none());
-        assert_eq!(rt; stripped.sets.len(), 0);
+/// Whether these are EXCSQLIMM with number 2 and an object, and RDBCMM with number 3, behind which the chain goes on.
+fn are_cut(commands: &[Command]) -> bool {
+    match commands {
+        [first, last] => is_execution(first) && is_commit(last),
+        _ => false,
     }
+}
+
+fn is_execution(command: &Command) -> bool {
+    (command.code, command.corr, command.go_on, command.at) == (0x200A, 2, false, 10)
+        && command.body.as_slice() == [0x00, 0x04, 0x20, 0x0A].as_slice()
+        && is_object(command.objects.get(0))
+}
+
+fn is_object(object: Option<&Octets>) -> bool {
+    match object {
+        Some(object) => object.as_slice() == [0xFF].as_slice(),
+        None => false,
+    }
+}
+
+fn is_commit(command: &Command) -> bool {
+    (command.code, command.corr, command.go_on, command.at) == (0x200E, 3, true, 27)
+}
+
+/// Whether there are four segments, of which the second is these commands.
+fn are_segments(segments: &SegmentList) -> bool {
+    match segments.get(1) {
+        Some(segment) => segments.len() == 4 && are_cut(segment.commands().as_slice()),
+        None => false,
+    }
+}
+
+/// EXCSAT, EXCSQLIMM with an object, RDBCMM, OPNQRY and a command that isn't known.
+const CHAIN: &str = "\
+000AD041000100041041000AD05100020004200A0007D0430002FF000AD06100030004200E\
+000AD04100040004200C000AD00100050004FFFF";
+
+#[test]
+fn cuts(rt: HostRuntime) -> Result<(), Fail> {
+    assert!(rt; are_segments(&segments_of(rt.alloc(), CHAIN)?));
     Ok(())
 }
 
-/// A list of members is taken out; of SQLSTT objects those behind the SQLCARD are; a body that is no object stays.
-#[test]
-fn takes_out(rt: HostRuntime) -> Result<(), Fail> {
-    let commit = [0x00, 0x0A, 0xD0, 0x21, 0x00, 0x05, 0x00, 0x04, 0x20, 0x0E];
-    let segments = segments_of(rt.alloc(), &commit)?;
-    let segment = segments.get(0).ok_or("a segment")?;
-    let message = [
-        0x00, 0x12, 0x22, 0x0C, 0x00, 0x0E, 0x24, 0x4E, 0x01, 0x02, 0x00, 0x02, 0x00, 0x05, 0x00,
-        0x01, 0x00, 0x00,
-    ];
-    let set = [
-        0x00, 0x0D, 0x24, 0x14, 0x00, 0x00, 0x00, 0x00, 0x03, 0xC1, 0x7E, 0xC2, 0xFF,
-    ];
-    let replies = replies(
-        rt.alloc(),
-        &[
-            (Kind::Object, set.as_slice()),
-            (Kind::Reply, message.as_slice()),
-            (Kind::Object, [0x00, 0x05, 0x24, 0x08, 0xFF].as_slice()),
-            (Kind::Object, set.as_slice()),
-            (Kind::Object, [0x00].as_slice()),
-        ],
-    )?;
-    let stripped = stripped(rt.alloc(), &replies, segment)?;
-    assert_eq!(rt; stripped.replies.len(), 4);
-    let second = stripped.replies.get(1).ok_or("a reply")?;
-    assert_eq!(rt; second.body.as_slice(), [0x00, 0x04, 0x22, 0x0C].as_slice());
-    assert_eq!(rt; stripped.sets.len(), 1);
-    assert_eq!(rt;
-        stripped.sets.get(0).ok_or("a statement")?.as_slice(),
-        &set[4..]
-    );
-    let list = stripped.list.ok_or("a list")?;
-    assert_eq!(rt; list.as_slice(), &message[8..]);
-    assert!(rt; !stripped.stop);
-    Ok(())
+// ---- registers
+
+/// A log of registers, and a copy of one.
+#[derive(Drop)]
+struct Logs {
+    alloc: Global,
+    log: RegisterLog,
+    copy: RegisterLog,
 }
 
 /// The data of a SQLSTT with this text in mixed bytes.
-fn sqlstt(alloc: Global, text: &[u8]) -> Result<Vec<u8>, Fail> {
-    let mut data = Vec::new(alloc);
-    let [high, low] = u16::try_from(text.len())?.to_be_bytes();
-    data.extend_from_slice(&[0x00, 0x00, 0x00, high, low])?;
-    data.extend_from_slice(text)?;
-    data.push(0xFF)?;
-    Ok(data)
+fn sqlstt(alloc: Global, text: &[u8]) -> Result<Octets, NoMemory> {
+    let [high, low] = match u16::try_from(text.len()) {
+        Ok(len) => len.to_be_bytes(),
+        Err(_) => [0xFF, 0xFF],
+    };
+    let mut sqlstt = Octets::of(alloc, &[0x00, 0x00, 0x00, high, low])?;
+    sqlstt.push_all(text)?;
+    sqlstt.push_all(&[0xFF])?;
+    Ok(sqlstt)
 }
 
-/// 64 registers fit, and a 65th doesn't; one that is there can be set again.
-#[test]
-fn counts_registers(rt: HostRuntime) -> Result<(), Fail> {
-    let mut log = RegisterLog::new(rt.alloc());
-    for i in 0..64 {
-        let data = sqlstt(rt.alloc(), &[0xC1, 0x40 + i, 0x7E, 0xF1])?;
-        log.add(data.as_slice(), TypDef::Sql370)?;
+/// So many bytes C2.
+fn long_text(alloc: Global, count: u32) -> Result<Octets, NoMemory> {
+    let mut text = Octets::new(alloc);
+    for _ in 0..count {
+        text.push_all(&[0xC2])?;
     }
-    assert_eq!(rt; log.len(), 64);
-    let other = sqlstt(rt.alloc(), &[0xC2, 0x7E, 0xF1])?;
-    assert_eq!(rt;
-        log.add(other.as_slice(), TypDef::Sql370),
-        Err(RegisterFault::TooMany)
-    );
-    let again = sqlstt(rt.alloc(), &[0xC1, 0x40, 0x7E, 0xF2])?;
-    assert_eq!(rt; log.add(again.as_slice(), TypDef::Sql370), Ok(()));
-    let long = sqlstt(rt.alloc(), [0xC2; 4097].as_slice())?;
-    assert_eq!(rt;
-        log.add(long.as_slice(), TypDef::Sql370),
-        Err(RegisterFault::TooLong)
-    );
-    let most = sqlstt(rt.alloc(), [0xC2; 4096].as_slice())?;
-    assert_eq!(rt;
-        log.add(most.as_slice(), TypDef::Sql370),
-        Err(RegisterFault::TooMany)
-    );
-    assert_eq!(rt; log.len(), 64);
-    Ok(())
+    Ok(text)
 }
 
-/// A register is known by the text before 7E in EBCDIC, and before 3D in ASCII; all are set again by one command.
-#[test]
-fn sets_again(rt: HostRuntime) -> Result<(), Fail> {
-    let mut log = RegisterLog::new(rt.alloc());
-    assert_eq!(rt; log.chain()?.as_slice(), [].as_slice());
-    for text in [
-        [0xC1, 0x7E, 0xF1].as_slice(),
-        [0xC2, 0x3D, 0xF1].as_slice(),
-        [0xC1, 0x7E, 0xF2].as_slice(),
-        [0xC2, 0x3D, 0xF2].as_slice(),
-    ] {
-        log.add(sqlstt(rt.alloc(), text)?.as_slice(), TypDef::Sql370)?;
+/// The text that digits spell, or one of 4,096 or 4,097 bytes.
+fn text(alloc: Global, word: &str) -> Result<Octets, NoMemory> {
+    match word {
+        "4096" => long_text(alloc, 4096),
+        "4097" => long_text(alloc, 4097),
+        _ => bytes(alloc, word),
     }
-    assert_eq!(rt; log.len(), 3);
-    assert_eq!(rt;
-        log.chain()?.as_slice(),
-        [
-            0x00, 0x0A, 0xD0, 0x51, 0x00, 0x01, 0x00, 0x04, 0x20, 0x14, 0x00, 0x13, 0xD0, 0x53,
-            0x00, 0x01, 0x00, 0x0D, 0x24, 0x14, 0x00, 0x00, 0x00, 0x00, 0x03, 0xC1, 0x7E, 0xF2,
-            0xFF, 0x00, 0x13, 0xD0, 0x53, 0x00, 0x01, 0x00, 0x0D, 0x24, 0x14, 0x00, 0x00, 0x00,
-            0x00, 0x03, 0xC2, 0x3D, 0xF1, 0xFF, 0x00, 0x13, 0xD0, 0x03, 0x00, 0x01, 0x00, 0x0D,
-            0x24, 0x14, 0x00, 0x00, 0x00, 0x00, 0x03, 0xC2, 0x3D, 0xF2, 0xFF,
-        ]
-        .as_slice()
-    );
-    let mut ascii = RegisterLog::new(rt.alloc());
-    for text in [[0xC2, 0x3D, 0xF1].as_slice(), [0xC2, 0x3D, 0xF2].as_slice()] {
-        ascii.add(sqlstt(rt.alloc(), text)?.as_slice(), TypDef::SqlAsc)?;
-    }
-    assert_eq!(rt; ascii.len(), 1);
-    Ok(())
 }
 
-/// A copy sets the same registers again, and what is added to it isn't added to the log.
-#[test]
-fn copies_registers(rt: HostRuntime) -> Result<(), Fail> {
-    let mut log = RegisterLog::new(rt.alloc());
-    for text in [[0xC1, 0x7E, 0xF1], [0xC2, 0x7E, 0xF1]] {
-        log.add(sqlstt(rt.alloc(), &text)?.as_slice(), TypDef::Sql370)?;
+/// Whether a register can be set in a log, or can't for this cause.
+fn sets(log: &mut RegisterLog, typdef: TypDef, sqlstt: &[u8], event: &str) -> bool {
+    match log.add(sqlstt, typdef) {
+        Ok(()) => event != "too many" && event != "too long",
+        Err(RegisterFault::TooMany) => event == "too many",
+        Err(RegisterFault::TooLong) => event == "too long",
+        Err(RegisterFault::NoMemory) => false,
     }
-    let mut copy = log.copy()?;
-    assert_eq!(rt; copy.chain()?.as_slice(), log.chain()?.as_slice());
-    let other = sqlstt(rt.alloc(), &[0xC3, 0x7E, 0xF1])?;
-    copy.add(other.as_slice(), TypDef::Sql370)?;
-    assert_eq!(rt; (copy.len(), log.len()), (3, 2));
+}
+
+/// Whether this text can be set, or can't, as an event says.
+fn takes_text(logs: &mut Logs, event: &str, text: &[u8]) -> Result<bool, NoMemory> {
+    let sqlstt = sqlstt(logs.alloc, text)?;
+    let data = sqlstt.as_slice();
+    Ok(match event {
+        "add to the copy" => sets(&mut logs.copy, TypDef::Sql370, data, event),
+        "add in ASCII" => sets(&mut logs.log, TypDef::SqlAsc, data, event),
+        _ => sets(&mut logs.log, TypDef::Sql370, data, event),
+    })
+}
+
+/// Sets 64 registers.
+fn fill(logs: &mut Logs) -> Result<bool, NoMemory> {
+    let mut are_set = true;
+    for byte in 0x40..0x80 {
+        are_set = takes_text(logs, "add", &[0xC1, byte, 0x7E, 0xF1])? && are_set;
+    }
+    Ok(are_set)
+}
+
+/// Begins with no register.
+fn begin(logs: &mut Logs) -> bool {
+    logs.log = RegisterLog::new(logs.alloc);
+    true
+}
+
+/// Copies the log.
+fn copy(logs: &mut Logs) -> Result<bool, NoMemory> {
+    logs.copy = logs.log.copy()?;
+    Ok(true)
+}
+
+/// Whether a log sets its registers again by this chain.
+fn sets_again(log: &RegisterLog, alloc: Global, digits: &str) -> Result<bool, NoMemory> {
+    let chain = log.chain()?;
+    are(alloc, chain.as_slice(), digits)
+}
+
+/// Whether both logs set their registers again by the same chain.
+fn are_same(logs: &Logs) -> Result<bool, NoMemory> {
+    let chain = logs.log.chain()?;
+    let copied = logs.copy.chain()?;
+    Ok(copied.as_slice() == chain.as_slice())
+}
+
+/// Whether so many registers are set.
+fn has_length(log: &RegisterLog, count: &str) -> bool {
+    log.len() as u64 == number(count)
+}
+
+fn set_text(logs: &mut Logs, event: &str, word: &str) -> Result<bool, NoMemory> {
+    let text = text(logs.alloc, word)?;
+    takes_text(logs, event, text.as_slice())
+}
+
+/// Whether an event goes as it says.
+fn goes(logs: &mut Logs, row: &str) -> Result<bool, NoMemory> {
+    let (event, word) = field(row);
+    match event {
+        "new" => Ok(begin(logs)),
+        "fill" => fill(logs),
+        "copy" => copy(logs),
+        "same" => are_same(logs),
+        "chain" => sets_again(&logs.log, logs.alloc, word),
+        "length" => Ok(has_length(&logs.log, word)),
+        "length of the copy" => Ok(has_length(&logs.copy, word)),
+        _ => set_text(logs, event, word),
+    }
+}
+
+/// No register is set.
+fn none_set(alloc: Global) -> Logs {
+    Logs {
+        alloc,
+        log: RegisterLog::new(alloc),
+        copy: RegisterLog::new(alloc),
+    }
+}
+
+/// The number, from 1, of the first event that doesn't go as it says; 0 where there is none.
+fn refuted_event(logs: &mut Logs) -> Result<u32, NoMemory> {
+    let mut number: u32 = 0;
+    for row in EVENTS.lines() {
+        number = number.saturating_add(1);
+        if !goes(logs, row)? {
+            return Ok(number);
+        }
+    }
+    Ok(0)
+}
+
+/// 64 registers fit, and a 65th doesn't; one that is there can be set again. A register is known by the text before 7E in EBCDIC, and
+/// before 3D in ASCII; all are set again by one command. A copy sets the same registers again, and what is added to it isn't added to
+/// the log.
+const EVENTS: &str = "\
+fill
+length|64
+too many|C27EF1
+add|C1407EF2
+too long|4097
+too many|4096
+length|64
+new
+chain|
+add|C17EF1
+add|C23DF1
+add|C17EF2
+add|C23DF2
+length|3
+chain|000AD0510001000420140013D0530001000D24140000000003C17EF2FF\
+0013D0530001000D24140000000003C23DF1FF0013D0030001000D24140000000003C23DF2FF
+new
+add in ASCII|C23DF1
+add in ASCII|C23DF2
+length|1
+new
+add|C17EF1
+add|C27EF1
+copy
+same
+add to the copy|C37EF1
+length of the copy|3
+length|2";
+
+#[test]
+fn registers_are_set_again(rt: HostRuntime) -> Result<(), Fail> {
+    let mut logs = none_set(rt.alloc());
+    assert_eq!(rt; refuted_event(&mut logs)?, 0);
     Ok(())
 }
