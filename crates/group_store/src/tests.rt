@@ -2,7 +2,7 @@ use super::*;
 use ddm_codepoints::TypDef;
 use ddm_codepoints::code_point::{SQLATTR, SQLSTT};
 use hex_lines::read_hex;
-use link_ends::Octets;
+use link_ends::{NoMemory, Octets};
 use member_core::Conversation;
 use reply_texts::encode;
 use server_list::ServerList;
@@ -61,77 +61,129 @@ fn digits_of(word: &str) -> &str {
     word
 }
 
-/// The bytes with this name, or those that its digits spell; none of an empty word.
-fn bytes(alloc: Global, word: &str) -> Result<Octets, Fail> {
-    if word.is_empty() {
-        return Ok(Octets::new(alloc));
-    }
-    match read_hex(alloc, digits_of(word).as_bytes())? {
+/// The bytes that digits spell. That they spell none is told as want of memory.
+fn spelled(alloc: Global, digits: &str) -> Result<Octets, NoMemory> {
+    match read_hex(alloc, digits.as_bytes())? {
         Some(bytes) => Ok(bytes),
-        None => Err(Fail::from("digits")),
+        None => Err(NoMemory),
     }
 }
 
-/// An object with this text in EBCDIC, of fewer than 256 bytes.
-fn text_object(alloc: Global, text: &str) -> Result<Octets, Fail> {
-    let code = if text == "WITH HOLD" { SQLATTR } else { SQLSTT };
+/// The bytes with this name, or those that its digits spell; none of an empty word.
+fn bytes(alloc: Global, word: &str) -> Result<Octets, NoMemory> {
+    if word.is_empty() {
+        Ok(Octets::new(alloc))
+    } else {
+        spelled(alloc, digits_of(word))
+    }
+}
+
+/// The number of fewer than 256 bytes, and 255 of others.
+fn size_of(bytes: &[u8]) -> u8 {
+    match u8::try_from(bytes.len()) {
+        Ok(size) => size,
+        Err(_) => u8::MAX,
+    }
+}
+
+/// Appends a text in EBCDIC.
+fn put_text(alloc: Global, object: &mut Octets, text: &str) -> Result<(), NoMemory> {
     let mut coded = Vec::from_slice(alloc, text.as_bytes())?;
     encode(&mut coded, TypDef::Sql370);
-    let size = u8::try_from(text.len())?;
-    let mut object = Octets::of(alloc, &[0x00, size.saturating_add(10)])?;
-    object.push_all(&code.to_be_bytes())?;
-    object.push_all(&[0x00, 0x00, 0x00, 0x00, size])?;
-    object.push_all(coded.as_slice())?;
+    object.push_all(coded.as_slice())
+}
+
+/// What stands before the text of an object.
+fn head_of(text: &str) -> [u8; 9] {
+    let code = if text == "WITH HOLD" { SQLATTR } else { SQLSTT };
+    let [high, low] = code.to_be_bytes();
+    let size = size_of(text.as_bytes());
+    [
+        0x00,
+        size.saturating_add(10),
+        high,
+        low,
+        0x00,
+        0x00,
+        0x00,
+        0x00,
+        size,
+    ]
+}
+
+/// An object with this text in EBCDIC, of fewer than 246 bytes.
+fn text_object(alloc: Global, text: &str) -> Result<Octets, NoMemory> {
+    let mut object = Octets::of(alloc, &head_of(text))?;
+    put_text(alloc, &mut object, text)?;
     object.push_all(&[0xFF])?;
     Ok(object)
 }
 
-/// Appends a DSS of fewer than 256 bytes with number 1; others with this number may follow.
-fn put(chain: &mut Octets, kind: u8, follow: bool, body: &[u8]) -> Result<(), Fail> {
-    let size = u8::try_from(body.len())?;
+/// Appends a DSS of fewer than 250 bytes with number 1; others with this number may follow.
+fn put(chain: &mut Octets, kind: u8, follow: bool, body: &[u8]) -> Result<(), NoMemory> {
+    let size = size_of(body).saturating_add(6);
     let format = if follow { kind | 0x50 } else { kind };
-    chain.push_all(&[0x00, size.saturating_add(6), 0xD0, format, 0x00, 0x01])?;
-    chain.push_all(body)?;
-    Ok(())
+    chain.push_all(&[0x00, size, 0xD0, format, 0x00, 0x01])?;
+    chain.push_all(body)
 }
 
-/// Appends the objects with these texts.
-fn put_texts(alloc: Global, chain: &mut Octets, texts: &str) -> Result<(), Fail> {
+/// Appends the object with this text; others may follow.
+fn put_object(alloc: Global, chain: &mut Octets, follow: bool, text: &str) -> Result<(), NoMemory> {
+    let object = text_object(alloc, text)?;
+    put(chain, 0x03, follow, object.as_slice())
+}
+
+/// Appends the objects with these texts, two at most.
+fn put_texts(alloc: Global, chain: &mut Octets, texts: &str) -> Result<(), NoMemory> {
     match texts.split_once(';') {
         Some((text, last)) => {
-            put(chain, 0x03, true, text_object(alloc, text)?.as_slice())?;
-            put(chain, 0x03, false, text_object(alloc, last)?.as_slice())
+            put_object(alloc, chain, true, text)?;
+            put_object(alloc, chain, false, last)
         }
-        None => put(chain, 0x03, false, text_object(alloc, texts)?.as_slice()),
+        None => put_object(alloc, chain, false, texts),
     }
+}
+
+/// Appends a command; objects may follow.
+fn put_command(
+    alloc: Global,
+    chain: &mut Octets,
+    follow: bool,
+    command: &str,
+) -> Result<(), NoMemory> {
+    let command = bytes(alloc, command)?;
+    put(chain, 0x01, follow, command.as_slice())
 }
 
 /// The chain of a command with these objects, two at most.
-fn chain_of(alloc: Global, command: &str, texts: &str) -> Result<Octets, Fail> {
-    if let Some(chain) = command.strip_prefix('=') {
-        return bytes(alloc, chain);
-    }
+fn command_chain(alloc: Global, command: &str, texts: &str) -> Result<Octets, NoMemory> {
     let mut chain = Octets::new(alloc);
-    let command = bytes(alloc, command)?;
-    if texts.is_empty() {
-        put(&mut chain, 0x01, false, command.as_slice())?;
-    } else {
-        put(&mut chain, 0x01, true, command.as_slice())?;
+    put_command(alloc, &mut chain, !texts.is_empty(), command)?;
+    if !texts.is_empty() {
         put_texts(alloc, &mut chain, texts)?;
     }
     Ok(chain)
 }
 
+/// The chain of a round.
+fn chain_of(alloc: Global, command: &str, texts: &str) -> Result<Octets, NoMemory> {
+    match command.strip_prefix('=') {
+        Some(chain) => bytes(alloc, chain),
+        None => command_chain(alloc, command, texts),
+    }
+}
+
 /// A group with the user ALICE and a row with key 1, and two conversations with it.
 #[derive(Drop)]
 struct Scene {
+    alloc: Global,
     group: Store,
     first: Conversation<Store>,
     second: Conversation<Store>,
 }
 
 /// A store with the user ALICE, and a row with key 1.
-fn store(alloc: Global) -> Result<Store, Fail> {
+fn store(alloc: Global) -> Result<Store, NoMemory> {
     let mut store = Store::new(alloc);
     store.add_user(b"ALICE", b"SECRET")?;
     store.add_row(b"ALICE", 1, b"A")?;
@@ -139,20 +191,31 @@ fn store(alloc: Global) -> Result<Store, Fail> {
 }
 
 /// A conversation in which nothing was said.
-fn begun(alloc: Global, group: &Store) -> Result<Conversation<Store>, Fail> {
-    Ok(Conversation::new(alloc, group, &ServerList::new())?)
+fn begun(alloc: Global, group: &Store) -> Result<Conversation<Store>, NoMemory> {
+    Conversation::new(alloc, group, &ServerList::new())
 }
 
-/// Two conversations in which nothing was said.
-fn both_begun(alloc: Global) -> Result<Scene, Fail> {
-    let group = store(alloc)?;
-    let first = begun(alloc, &group)?;
+/// Another conversation beside one.
+fn with_second(alloc: Global, group: Store, first: Conversation<Store>) -> Result<Scene, NoMemory> {
     let second = begun(alloc, &group)?;
     Ok(Scene {
+        alloc,
         group,
         first,
         second,
     })
+}
+
+/// Two conversations with a group.
+fn with_both(alloc: Global, group: Store) -> Result<Scene, NoMemory> {
+    let first = begun(alloc, &group)?;
+    with_second(alloc, group, first)
+}
+
+/// Two conversations in which nothing was said.
+fn both_begun(alloc: Global) -> Result<Scene, NoMemory> {
+    let group = store(alloc)?;
+    with_both(alloc, group)
 }
 
 /// Whether a conversation that takes this chain answers it with these replies.
@@ -161,14 +224,19 @@ fn answers(
     conversation: &mut Conversation<Store>,
     chain: &[u8],
     replies: &[u8],
-) -> Result<bool, Fail> {
+) -> Result<bool, NoMemory> {
     let before = conversation.out().len();
     conversation.take(group, chain)?;
     Ok(conversation.out().get(before..) == Some(replies))
 }
 
-/// Whether a command's chain is answered with these replies, by the first conversation or by the second.
-fn is_answered(scene: &mut Scene, who: &str, chain: &[u8], replies: &[u8]) -> Result<bool, Fail> {
+/// Whether a chain is answered with these replies, by the first conversation or by the second.
+fn is_answered(
+    scene: &mut Scene,
+    who: &str,
+    chain: &[u8],
+    replies: &[u8],
+) -> Result<bool, NoMemory> {
     if who == "1" {
         answers(&mut scene.group, &mut scene.first, chain, replies)
     } else {
@@ -184,22 +252,32 @@ fn field(line: &str) -> (&str, &str) {
     }
 }
 
+/// Whether a chain is answered with the replies of this name.
+fn says(scene: &mut Scene, who: &str, chain: &[u8], name: &str) -> Result<bool, NoMemory> {
+    let replies = bytes(scene.alloc, name)?;
+    is_answered(scene, who, chain, replies.as_slice())
+}
+
+/// Whether a command with its texts is answered by a conversation as it says.
+fn answers_so(scene: &mut Scene, who: &str, command: &str, rest: &str) -> Result<bool, NoMemory> {
+    let (texts, replies) = field(rest);
+    let chain = chain_of(scene.alloc, command, texts)?;
+    says(scene, who, chain.as_slice(), replies)
+}
+
 /// Whether a round is answered as it says.
-fn holds(alloc: Global, scene: &mut Scene, round: &str) -> Result<bool, Fail> {
+fn holds(scene: &mut Scene, round: &str) -> Result<bool, NoMemory> {
     let (who, rest) = field(round);
     let (command, rest) = field(rest);
-    let (texts, replies) = field(rest);
-    let chain = chain_of(alloc, command, texts)?;
-    let replies = bytes(alloc, replies)?;
-    is_answered(scene, who, chain.as_slice(), replies.as_slice())
+    answers_so(scene, who, command, rest)
 }
 
 /// The number, from 1, of the first of these rounds that isn't answered as it says; 0 where there is none.
-fn refuted_in(alloc: Global, scene: &mut Scene, rounds: &str) -> Result<u32, Fail> {
+fn refuted_in(scene: &mut Scene, rounds: &str) -> Result<u32, NoMemory> {
     let mut number: u32 = 0;
     for round in rounds.lines() {
         number = number.saturating_add(1);
-        if !holds(alloc, scene, round)? {
+        if !holds(scene, round)? {
             return Ok(number);
         }
     }
@@ -207,9 +285,9 @@ fn refuted_in(alloc: Global, scene: &mut Scene, rounds: &str) -> Result<u32, Fai
 }
 
 /// The first of these rounds that isn't answered as it says, in conversations in which nothing was said before.
-fn refuted(alloc: Global, rounds: &str) -> Result<u32, Fail> {
+fn refuted(alloc: Global, rounds: &str) -> Result<u32, NoMemory> {
     let mut scene = both_begun(alloc)?;
-    refuted_in(alloc, &mut scene, rounds)
+    refuted_in(&mut scene, rounds)
 }
 
 /// What leads to access in both: the gateway's EXCSAT, ACCSEC with mechanism 3, SECCHK of ALICE with SECRET, and ACCRDB of SAMPLE
@@ -226,13 +304,18 @@ const ACCESS: &str = "\
 2|001B2001000D002FD8E3C4E2D8D3F3F7F0000A2110E2C1D4D7D3C5||\
 0033D0020001002D2201000611490000000C112EC7D9D7F0F1F0F1F0000D002FD8E3C4E2D8D3F3F7F0000A00350006119C0025";
 
-/// The first of these rounds that isn't answered as it says, in conversations of ALICE, who accessed the database.
-fn refuted_behind_access(alloc: Global, rounds: &str) -> Result<u32, Fail> {
-    let mut scene = both_begun(alloc)?;
-    if refuted_in(alloc, &mut scene, ACCESS)? > 0 {
-        return Err(Fail::from("access"));
+/// The first of these rounds that isn't answered as it says, behind those that lead to access.
+fn refuted_behind(scene: &mut Scene, rounds: &str) -> Result<u32, NoMemory> {
+    if refuted_in(scene, ACCESS)? > 0 {
+        return Ok(u32::MAX);
     }
-    refuted_in(alloc, &mut scene, rounds)
+    refuted_in(scene, rounds)
+}
+
+/// The first of these rounds that isn't answered as it says, in conversations of ALICE, who accessed the database.
+fn refuted_behind_access(alloc: Global, rounds: &str) -> Result<u32, NoMemory> {
+    let mut scene = both_begun(alloc)?;
+    refuted_behind(&mut scene, rounds)
 }
 
 // ---- access
@@ -311,18 +394,42 @@ fn conflicts_roll_back(rt: HostRuntime) -> Result<(), Fail> {
     Ok(())
 }
 
+/// Whether a row with another schema is added, and neither one that is there nor a user who is.
+fn adds(group: &mut Store) -> Result<bool, NoMemory> {
+    let is_added = group.add_row(b"AL", 9, b"")?;
+    let is_there = !group.add_row(b"ALICE", 1, b"B")?;
+    let is_known = !group.add_user(b"ALICE ", b"OTHER")?;
+    Ok(is_added && is_there && is_known)
+}
+
+/// Whether the second of two rows is that of ALICE, and none was committed.
+fn tells(group: &Store) -> Result<bool, NoMemory> {
+    let rows = group.rows()?;
+    Ok(group.commits() == 0 && rows.len() == 2 && is_of_alice(rows.get(1)))
+}
+
+/// Whether this is the row of ALICE with key 1.
+fn is_of_alice(row: Option<&Row>) -> bool {
+    match row {
+        Some(row) => {
+            row.key == 1
+                && row.schema.as_slice() == b"ALICE".as_slice()
+                && row.text.as_slice() == b"A".as_slice()
+        }
+        None => false,
+    }
+}
+
+/// Whether rows are told behind what is added.
+fn adds_and_tells(alloc: Global) -> Result<bool, NoMemory> {
+    let mut group = store(alloc)?;
+    Ok(adds(&mut group)? && tells(&group)?)
+}
+
 /// Rows are told by schema and by key; a row and a user are added once.
 #[test]
 fn rows_are_told(rt: HostRuntime) -> Result<(), Fail> {
-    let mut group = store(rt.alloc())?;
-    assert!(rt; group.add_row(b"AL", 9, b"")?);
-    assert!(rt; !group.add_row(b"ALICE", 1, b"B")?);
-    assert!(rt; !group.add_user(b"ALICE ", b"OTHER")?);
-    let rows = group.rows()?;
-    let row = rows.get(1).ok_or("a second row")?;
-    assert_eq!(rt; (group.commits(), rows.len(), row.key), (0, 2, 1));
-    assert_eq!(rt; row.schema.as_slice(), b"ALICE".as_slice());
-    assert_eq!(rt; row.text.as_slice(), b"A".as_slice());
+    assert!(rt; adds_and_tells(rt.alloc())?);
     Ok(())
 }
 
