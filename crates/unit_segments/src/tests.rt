@@ -125,33 +125,33 @@ const FRONTS: &str = "\
 /// ACCSEC without SECMEC, and with one of a byte; SECCHK without USRID, without SECMEC, and with one of a byte before one of two, of
 /// which the first counts; ACCRDB without TYPDEFNAM, and without RDBNAM.
 const FAULTS: &str = "\
-0005|0|short|
-000AD1|2|no D0|
-000AD002|3|format|
-000AD004|3|format|
-000AD081|3|format|
-000AD011|3|format|
-8008D001000900040002|8|continue|9
-000AD003000900042414|3|04|
-000AD05100090004200A000AD001000900041041|13|04|9
-000AD05100090004200A000AD003000800042414|14|04|8
-0008D00100090003|6|07|9
-000AD001000900031041|6|07|9
-000ED00100090008104100031147|10|07|9
-000AD001000900051041|6|08|9
-000ED00100090008104100051147|10|08|9
-000ED00100090008200E0005119F|10|08|9
-000BD00100090004104100|10|08|9
-000AD001000980001041|6|0C|9
-000ED00100090008104180041147|10|0C|9
-000ED00100098008200A02000001|6|0C|9
-000AD00100090004106D|6|0E|9
-000FD00100090009106D000511A203|6|0E|9
-0010D0010009000A106E000611A20003|6|0E|9
-000ED00100090008106E000411A0|6|0E|9
-0019D00100090013106E000511A203000611A20003000411A0|6|0E|9
-000ED00100090008200100042110|6|0E|9
-000ED0010009000820010004002F|6|0E|9";
+fault|0005|0|short|
+fault|000AD1|2|no D0|
+fault|000AD002|3|format|
+fault|000AD004|3|format|
+fault|000AD081|3|format|
+fault|000AD011|3|format|
+fault|8008D001000900040002|8|continue|9
+fault|000AD003000900042414|3|04|
+fault|000AD05100090004200A000AD001000900041041|13|04|9
+fault|000AD05100090004200A000AD003000800042414|14|04|8
+fault|0008D00100090003|6|07|9
+fault|000AD001000900031041|6|07|9
+fault|000ED00100090008104100031147|10|07|9
+fault|000AD001000900051041|6|08|9
+fault|000ED00100090008104100051147|10|08|9
+fault|000ED00100090008200E0005119F|10|08|9
+fault|000BD00100090004104100|10|08|9
+fault|000AD001000980001041|6|0C|9
+fault|000ED00100090008104180041147|10|0C|9
+fault|000ED00100098008200A02000001|6|0C|9
+fault|000AD00100090004106D|6|0E|9
+fault|000FD00100090009106D000511A203|6|0E|9
+fault|0010D0010009000A106E000611A20003|6|0E|9
+fault|000ED00100090008106E000411A0|6|0E|9
+fault|0019D00100090013106E000511A203000611A20003000411A0|6|0E|9
+fault|000ED00100090008200100042110|6|0E|9
+fault|000ED0010009000820010004002F|6|0E|9";
 
 /// A fault that is awaited.
 #[derive(Drop)]
@@ -184,9 +184,15 @@ fn why_of(what: &str) -> Option<Why> {
     }
 }
 
-/// Whether bytes are no frames, for this cause.
-fn are_no_frames(alloc: Global, bytes: &[u8], cause: Why, wanted: &Wanted<'_>) -> bool {
-    match Reader::new(alloc, Side::Requests, LIMIT).feed(bytes) {
+/// Why bytes are no frames.
+fn frame_fault(alloc: Global, bytes: &[u8]) -> Result<(), FeedFault> {
+    let mut frames = Reader::new(alloc, Side::Requests, LIMIT);
+    frames.feed(bytes)
+}
+
+/// Whether a fault of a frame is this one.
+fn is_frame(fault: Result<(), FeedFault>, cause: Why, wanted: &Wanted<'_>) -> bool {
+    match fault {
         Err(FeedFault::Frame { at, why, corr }) => {
             at == wanted.place && why == cause && u64::from(corr) == wanted.number
         }
@@ -194,10 +200,15 @@ fn are_no_frames(alloc: Global, bytes: &[u8], cause: Why, wanted: &Wanted<'_>) -
     }
 }
 
-/// Whether bytes are no chains, with this error.
-fn are_no_chains(alloc: Global, bytes: &[u8], wanted: &Wanted<'_>) -> bool {
+/// Why bytes are no chains.
+fn chain_fault(alloc: Global, bytes: &[u8]) -> Option<ChainFault> {
     let mut scene = nothing_read(alloc);
-    match fault_in(&mut scene, bytes) {
+    fault_in(&mut scene, bytes)
+}
+
+/// Whether a fault of a chain is this one.
+fn is_syntax(fault: Option<ChainFault>, wanted: &Wanted<'_>) -> bool {
+    match fault {
         Some(ChainFault::Syntax { at, err, corr }) => {
             at == wanted.place && is_error(err, wanted.what) && u64::from(corr) == wanted.number
         }
@@ -213,16 +224,21 @@ fn is_error(error: u8, digits: &str) -> bool {
 /// Whether bytes have this fault.
 fn have_fault(alloc: Global, bytes: &[u8], wanted: &Wanted<'_>) -> bool {
     match why_of(wanted.what) {
-        Some(cause) => are_no_frames(alloc, bytes, cause, wanted),
-        None => are_no_chains(alloc, bytes, wanted),
+        Some(cause) => is_frame(frame_fault(alloc, bytes), cause, wanted),
+        None => is_syntax(chain_fault(alloc, bytes), wanted),
     }
+}
+
+/// Appends the bytes that digits spell.
+fn put(alloc: Global, all: &mut Octets, digits: &str) -> Result<(), NoMemory> {
+    let bytes = bytes(alloc, digits)?;
+    all.push_all(bytes.as_slice())
 }
 
 /// The bytes behind those in front of them.
 fn behind(alloc: Global, front: &str, digits: &str) -> Result<Octets, NoMemory> {
     let mut all = bytes(alloc, front)?;
-    let own = bytes(alloc, digits)?;
-    all.push_all(own.as_slice())?;
+    put(alloc, &mut all, digits)?;
     Ok(all)
 }
 
@@ -235,33 +251,20 @@ fn is_refused(alloc: Global, front: &str, row: &str) -> Result<bool, NoMemory> {
     Ok(have_fault(alloc, all.as_slice(), &wanted))
 }
 
-/// The number, from 1, of the first row whose bytes aren't refused as it says, behind this front; 0 where there is none.
-fn accepted_behind(alloc: Global, front: &str) -> Result<u32, NoMemory> {
-    let mut number: u32 = 0;
-    for row in FAULTS.lines() {
-        number = number.saturating_add(1);
-        if !is_refused(alloc, front, row)? {
-            return Ok(number);
-        }
-    }
-    Ok(0)
-}
-
-/// The same behind each front.
-fn accepted(alloc: Global) -> Result<u32, NoMemory> {
+/// Whether they are behind each front: in the first chain, in the middle of one, and in a second one.
+fn is_refused_behind_each(alloc: Global, row: &str) -> Result<bool, NoMemory> {
     for front in FRONTS.lines() {
-        let number = accepted_behind(alloc, front)?;
-        if number > 0 {
-            return Ok(number);
+        if !is_refused(alloc, front, row)? {
+            return Ok(false);
         }
     }
-    Ok(0)
+    Ok(true)
 }
 
-/// Each fault at its place with its number: in the first chain, in the middle of one, and in a second one.
+/// Each fault at its place with its number.
 #[test]
 fn refuses(rt: HostRuntime) -> Result<(), Fail> {
-    assert_eq!(rt; accepted(rt.alloc())?, 0);
+    assert_eq!(rt; refuted(rt.alloc(), FAULTS)?, 0);
     Ok(())
 }
 
@@ -275,13 +278,17 @@ fn commands(alloc: Global, count: u32) -> Result<Octets, NoMemory> {
     Ok(chain)
 }
 
+/// Whether bytes are no chain, since the command at this place, with number 1, is one too many.
+fn is_too_long(alloc: Global, bytes: &[u8], place: u64) -> bool {
+    let mut scene = nothing_read(alloc);
+    let fault = fault_in(&mut scene, bytes);
+    fault == Some(ChainFault::TooMany { at: place, corr: 1 }) && scene.chains.is_empty()
+}
+
 /// Whether so many commands of one chain are one more than it may have, which begins at this place.
 fn are_too_many(alloc: Global, count: u32, place: u64) -> Result<bool, NoMemory> {
     let chain = commands(alloc, count)?;
-    let mut scene = nothing_read(alloc);
-    let fault = fault_in(&mut scene, chain.as_slice());
-    let wanted = ChainFault::TooMany { at: place, corr: 1 };
-    Ok(fault == Some(wanted) && scene.chains.is_empty())
+    Ok(is_too_long(alloc, chain.as_slice(), place))
 }
 
 /// A chain has 4,096 commands at most.
@@ -293,28 +300,33 @@ fn counts_commands(rt: HostRuntime) -> Result<(), Fail> {
 
 // ---- chains, segments and replies
 
-/// The segments of the chain that digits spell; none where they spell none.
-fn segments_of(alloc: Global, digits: &str) -> Result<SegmentList, NoMemory> {
-    let chain = bytes(alloc, digits)?;
+/// The segments of the chain that these bytes are; none where they are none.
+fn segments_in(alloc: Global, bytes: &[u8]) -> Result<SegmentList, NoMemory> {
     let mut scene = nothing_read(alloc);
-    let fault = fault_in(&mut scene, chain.as_slice());
-    segments_in(alloc, &scene, fault.is_none())
-}
-
-/// The segments of the first chain, where there is no fault.
-fn segments_in(alloc: Global, scene: &Scene, is_sound: bool) -> Result<SegmentList, NoMemory> {
+    let fault = fault_in(&mut scene, bytes);
     match scene.chains.get(0) {
-        Some(chain) if is_sound => cut(alloc, chain),
+        Some(chain) if fault.is_none() => cut(alloc, chain),
         _ => Ok(Sequence::new(alloc)),
     }
 }
 
+/// The segments of the chain that digits spell; none where they spell none.
+fn segments_of(alloc: Global, digits: &str) -> Result<SegmentList, NoMemory> {
+    let bytes = bytes(alloc, digits)?;
+    segments_in(alloc, bytes.as_slice())
+}
+
+/// Whether these bytes are one chain.
+fn are_chain(alloc: Global, bytes: &[u8]) -> bool {
+    let mut scene = nothing_read(alloc);
+    let fault = fault_in(&mut scene, bytes);
+    fault.is_none() && scene.chains.len() == 1
+}
+
 /// Whether digits spell one chain.
 fn is_chain(alloc: Global, digits: &str) -> Result<bool, NoMemory> {
-    let chain = bytes(alloc, digits)?;
-    let mut scene = nothing_read(alloc);
-    let fault = fault_in(&mut scene, chain.as_slice());
-    Ok(fault.is_none() && scene.chains.len() == 1)
+    let bytes = bytes(alloc, digits)?;
+    Ok(are_chain(alloc, bytes.as_slice()))
 }
 
 /// Whether each command's body is no longer than a chain may be.
@@ -337,18 +349,12 @@ fn are_replies(replies: &[Dss]) -> bool
     }
 }
 
-/// A segment as a member gets it; nothing where a command is too long.
-fn asked(alloc: Global, segment: &Segment) -> Result<Octets, NoMemory> {
-    if are_commands(segment.commands().as_slice()) {
-        ask_release(alloc, segment)
-    } else {
-        Ok(Octets::new(alloc))
-    }
-}
-
 /// Whether a member gets a segment so.
 fn is_asked(alloc: Global, segment: &Segment, digits: &str) -> Result<bool, NoMemory> {
-    let asked = asked(alloc, segment)?;
+    if !are_commands(segment.commands().as_slice()) {
+        return Ok(false);
+    }
+    let asked = ask_release(alloc, segment)?;
     are(alloc, asked.as_slice(), digits)
 }
 
@@ -413,8 +419,7 @@ fn has_reply(alloc: Global, replies: &DssList, row: &str) -> Result<bool, NoMemo
     if replies.len() as u64 != number(count) {
         return Ok(false);
     }
-    let place = if place == "0" { 0 } else { 1 };
-    match replies.get(place) {
+    match replies.get(usize::from(place == "1")) {
         Some(reply) if reply.corr == 5 => are(alloc, reply.body.as_slice(), body),
         _ => Ok(false),
     }
@@ -469,8 +474,18 @@ fn lists(alloc: Global, stripped: &Stripped, row: &str) -> Result<bool, NoMemory
     }
 }
 
+/// Whether what replies come to is what a row says.
+fn comes_to(alloc: Global, stripped: &Stripped, row: &str) -> Result<bool, NoMemory> {
+    let (words, rest) = field(row);
+    if ends(stripped, words) {
+        takes(alloc, stripped, rest)
+    } else {
+        Ok(false)
+    }
+}
+
 /// Whether replies to a segment come to what a row says.
-fn comes_to(
+fn is_answered(
     alloc: Global,
     replies: &DssList,
     segment: &Segment,
@@ -479,20 +494,15 @@ fn comes_to(
     if !are_replies(replies.as_slice()) {
         return Ok(false);
     }
-    let (words, rest) = field(row);
     let stripped = strip(alloc, replies, segment)?;
-    if ends(&stripped, words) {
-        takes(alloc, &stripped, rest)
-    } else {
-        Ok(false)
-    }
+    comes_to(alloc, &stripped, row)
 }
 
 /// Whether replies to the first segment of a chain come to what a row says.
 fn answers(alloc: Global, chain: &str, replies: &DssList, row: &str) -> Result<bool, NoMemory> {
     let segments = segments_of(alloc, chain)?;
     match segments.get(0) {
-        Some(segment) => comes_to(alloc, replies, segment, row),
+        Some(segment) => is_answered(alloc, replies, segment, row),
         None => Ok(false),
     }
 }
@@ -508,6 +518,7 @@ fn strips(alloc: Global, row: &str) -> Result<bool, NoMemory> {
 fn holds(alloc: Global, row: &str) -> Result<bool, NoMemory> {
     let (what, rest) = field(row);
     match what {
+        "fault" => is_refused_behind_each(alloc, rest),
         "chain" => is_chain(alloc, rest),
         "asks" => asks(alloc, rest),
         "joins" => joins(alloc, rest),
@@ -673,7 +684,6 @@ fn takes_text(logs: &mut Logs, event: &str, text: &[u8]) -> Result<bool, NoMemor
     })
 }
 
-/// Sets 64 registers.
 fn fill(logs: &mut Logs) -> Result<bool, NoMemory> {
     let mut are_set = true;
     for byte in 0x40..0x80 {
@@ -688,7 +698,6 @@ fn begin(logs: &mut Logs) -> bool {
     true
 }
 
-/// Copies the log.
 fn copy(logs: &mut Logs) -> Result<bool, NoMemory> {
     logs.copy = logs.log.copy()?;
     Ok(true)
@@ -707,11 +716,6 @@ fn are_same(logs: &Logs) -> Result<bool, NoMemory> {
     Ok(copied.as_slice() == chain.as_slice())
 }
 
-/// Whether so many registers are set.
-fn has_length(log: &RegisterLog, count: &str) -> bool {
-    log.len() as u64 == number(count)
-}
-
 fn set_text(logs: &mut Logs, event: &str, word: &str) -> Result<bool, NoMemory> {
     let text = text(logs.alloc, word)?;
     takes_text(logs, event, text.as_slice())
@@ -726,13 +730,12 @@ fn goes(logs: &mut Logs, row: &str) -> Result<bool, NoMemory> {
         "copy" => copy(logs),
         "same" => are_same(logs),
         "chain" => sets_again(&logs.log, logs.alloc, word),
-        "length" => Ok(has_length(&logs.log, word)),
-        "length of the copy" => Ok(has_length(&logs.copy, word)),
+        "length" => Ok(logs.log.len() as u64 == number(word)),
+        "length of the copy" => Ok(logs.copy.len() as u64 == number(word)),
         _ => set_text(logs, event, word),
     }
 }
 
-/// No register is set.
 fn none_set(alloc: Global) -> Logs {
     Logs {
         alloc,
