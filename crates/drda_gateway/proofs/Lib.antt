@@ -1,10 +1,8 @@
 pub mod ScriptLemmas
 pub mod SplitLemmas
-pub mod Ends
 pub mod Replay
 pub mod Following
 pub mod Headline
 pub mod UserLemmas
-pub mod Commanding
 pub mod Playing
 pub mod Tracing

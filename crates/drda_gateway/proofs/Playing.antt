@@ -3,7 +3,7 @@ use Rattle.std.proofs.Common.{◌≡◌, ◌≤◌, ℕ, List, Some, Ok, Err, le
 use Rattle.link_ends.specs.Source.{SourceState}
 use Rattle.link_ends.specs.Sink.{SinkState}
 use Rattle.hex_lines.specs.Lines.{most_bytes}
-use Rattle.drda_gateway.specs.Ends.{WasReadUp, Took, BrokeOff}
+use Rattle.program_ends.specs.Ends.{WasReadUp, Took, BrokeOff}
 use Rattle.drda_gateway.specs.Refusal.{Refusal}
 use Rattle.drda_gateway.specs.declared.script.ScriptWhy.{ScriptWhy}
 use Rattle.drda_gateway.specs.declared.script.ScriptWhy.TheVariants.{Long}
@@ -15,7 +15,7 @@ use Rattle.drda_gateway.specs.World.{world_of, events_of, start_world}
 use Rattle.drda_gateway.specs.Dedicated.{AreDedicated}
 use Rattle.drda_gateway.specs.Play.{Reports, Played, BegunReport, script_report}
 use Rattle.drda_gateway.proofs.ScriptLemmas.{script_of-long}
-use Rattle.drda_gateway.proofs.Commanding.{fits, wrote_all, wrote_some, all_told, all_read, not_both}
+use Rattle.program_ends.proofs.Commanding.{fits, wrote_all, wrote_some, all_told, all_read, not_both}
 use Rattle.drda_gateway.proofs.Headline.{all_dedicated}
 
 -- a text that is a script isn't too long

@@ -9,9 +9,9 @@ use Rattle.drda_trace.specs.declared.trace.TraceFault.TheVariants.{Refused}
 use Rattle.drda_trace.specs.Answers.{Reads}
 use Rattle.drda_trace.specs.Trace.{trace_of, traced_by}
 use Rattle.drda_trace.proofs.Capturing.{capture_of-long}
-use Rattle.drda_gateway.specs.Ends.{WasReadUp, Took, BrokeOff}
+use Rattle.program_ends.specs.Ends.{WasReadUp, Took, BrokeOff}
 use Rattle.drda_gateway.specs.Trace.{WasTraced, BegunTrace, traced_text}
-use Rattle.drda_gateway.proofs.Commanding.{fits, wrote_all, wrote_some, all_told, all_read, not_both}
+use Rattle.program_ends.proofs.Commanding.{fits, wrote_all, wrote_some, all_told, all_read, not_both}
 
 trace_of-long : (text : List ℕ) → most_bytes < length text → trace_of text ≡ Err 0
 unfolding trace_of

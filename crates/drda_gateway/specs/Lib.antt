@@ -7,8 +7,6 @@ pub mod Refusal
 pub mod Script
 pub mod ScriptText
 pub mod Split
-pub mod Ends
-pub mod Command
 pub mod Answer
 pub mod Session
 pub mod World

@@ -10,7 +10,7 @@ use Rattle.link_ends.specs.Sink.{SinkState}
 use Rattle.drda_gateway.specs.Refusal.{Refusal}
 use Rattle.drda_gateway.specs.ScriptText.{ScriptText}
 use Rattle.drda_gateway.specs.Script.{script_of}
-use Rattle.drda_gateway.specs.Command.{WroteAll, WroteSome, WroteRefusal}
+use Rattle.program_ends.specs.Command.{WroteAll, WroteSome, WroteRefusal}
 use Rattle.drda_gateway.specs.World.{world_of}
 use Rattle.drda_gateway.specs.Report.{report_of}
 use Rattle.hex_lines.specs.Lines.{line_end}

@@ -6,7 +6,7 @@ use Rattle.link_ends.specs.Sink.{SinkState}
 use Rattle.hex_lines.specs.Lines.{line_end}
 use Rattle.drda_trace.specs.declared.trace.Traced.{Traced}
 use Rattle.drda_trace.specs.Trace.{trace_of}
-use Rattle.drda_gateway.specs.Command.{WroteAll, WroteSome, WroteRefusal}
+use Rattle.program_ends.specs.Command.{WroteAll, WroteSome, WroteRefusal}
 
 -- the words that trace is called by
 abbrev pub trace_words : List (List ℕ)

@@ -3,15 +3,11 @@
 
 mod answer;
 mod command;
-mod input;
 mod laws;
-mod output;
 mod play;
 mod report;
 mod script;
 mod session;
-mod status;
-mod std_ends;
 #[cfg(test)]
 mod tests;
 mod trace;
@@ -19,9 +15,9 @@ mod world;
 
 use link_ends::NoMemory;
 use play::play;
+use program_ends::{StdSink, StdSource};
 use std::process::ExitCode;
 use std::{env, io};
-use std_ends::{StdSink, StdSource};
 use trace::trace;
 
 /// The status of a program that finds no memory for its words.

@@ -1,18 +1,16 @@
 ghost use Rattle.std.specs.Prelude.{◌≡◌, ◌≢◌, ◌≤◌, ◌↔◌, ◌⊎◌, ℕ, List, Some, Ok, Err, IsTrue, IfOk, map, string_bytes};
-ghost use Rattle.drda_gateway.specs.Ends.{NoReadFailed, NoWriteFailed, Offered, ReadBrokeOff, ReadSome};
+ghost use Rattle.program_ends.specs.Ends.{NoReadFailed, NoWriteFailed, Offered, ReadBrokeOff, ReadSome};
 ghost use Rattle.drda_gateway.specs.Refusal.{Refusal};
 ghost use Rattle.drda_gateway.specs.ScriptText.{ScriptText};
 ghost use Rattle.drda_gateway.specs.Script.{script_of};
 ghost use Rattle.drda_gateway.specs.Play.{play_words, usage_text, refusal_text, Played, RefusedScript, BegunReport, Reports};
 
 use crate::command::are_words;
-use crate::input::{ReadError, read_all};
-use crate::output::{offer, write_all};
 use crate::report::report;
 use crate::script::{ScriptFault, ScriptWhy, read_script};
-use crate::status::Status;
 use crate::world::run_script;
 use link_ends::{NoMemory, Octets, Sink, Source};
+use program_ends::{ReadError, Status, offer, read_all, write_all};
 use std::alloc::Global;
 
 /// What `play` is called with, as its users are told.

@@ -1,15 +1,13 @@
 ghost use Rattle.std.specs.Prelude.{◌≡◌, ◌≢◌, ◌≤◌, ◌⊎◌, ℕ, Bool, List, Some, Ok, Err, true, false, if◌then◌else◌, IfOk, map, string_bytes};
 ghost use Rattle.drda_trace.specs.declared.trace.Traced.{Traced as TracedIs};
 ghost use Rattle.drda_trace.specs.Trace.{trace_of};
-ghost use Rattle.drda_gateway.specs.Ends.{NoReadFailed, NoWriteFailed, Offered, ReadBrokeOff, ReadSome};
+ghost use Rattle.program_ends.specs.Ends.{NoReadFailed, NoWriteFailed, Offered, ReadBrokeOff, ReadSome};
 ghost use Rattle.drda_gateway.specs.Trace.{trace_words, usage_text, refusal_text, WasTraced, RefusedCapture, BegunTrace};
 
 use crate::command::are_words;
-use crate::input::{ReadError, read_all};
-use crate::output::{offer, write_all};
-use crate::status::Status;
 use drda_trace::{TraceFault, trace_text};
 use link_ends::{NoMemory, Sink, Source};
+use program_ends::{ReadError, Status, offer, read_all, write_all};
 use std::alloc::Global;
 
 /// What `trace` is called with, as its users are told.

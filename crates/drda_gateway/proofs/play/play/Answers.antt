@@ -1,7 +1,7 @@
 use Rattle.std.proofs.Common.{List, ℕ, subst, ◌∙◌}
 use Rattle.link_ends.specs.Source.{SourceState}
 use Rattle.link_ends.specs.Sink.{SinkState}
-use Rattle.drda_gateway.specs.Ends.{Offered}
+use Rattle.program_ends.specs.Ends.{Offered}
 use Rattle.drda_gateway.proofs.Playing.{never_refused, never_played, played, refused, report_begun}
 use Rattle.drda_gateway.proofs.play.play.Goals as goal
 

@@ -1,7 +1,7 @@
 use Rattle.std.proofs.Common.{◌≡◌, ◌∙◌, List, ℕ, true, false, subst, sym, ap, refl, inl, rules}
 use Rattle.link_ends.specs.Source.{SourceState}
 use Rattle.link_ends.specs.Sink.{SinkState}
-use Rattle.drda_gateway.specs.Ends.{Offered}
+use Rattle.program_ends.specs.Ends.{Offered}
 use Rattle.drda_gateway.proofs.Tracing.{was_traced, trace_begun, refused, same_trace, never_refused, never_traced, status_of}
 use Rattle.drda_gateway.proofs.trace.trace.Goals as goal
 

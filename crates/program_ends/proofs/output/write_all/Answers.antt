@@ -1,8 +1,8 @@
 use Rattle.std.proofs.Common.{arith, rules, length}
 use Rattle.std.proofs.lemmas.Slice.{between_to_end}
 use Rattle.link_ends.specs.Sink.{SinkState}
-use Rattle.drda_gateway.proofs.Ends.{took_more}
-use Rattle.drda_gateway.proofs.output.write_all.Goals as goal
+use Rattle.program_ends.proofs.Ends.{took_more}
+use Rattle.program_ends.proofs.output.write_all.Goals as goal
 
 pub loop-from-preserved : goal.loop-from-preserved
 loop-from-preserved g c =

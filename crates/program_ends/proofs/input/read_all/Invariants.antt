@@ -1,6 +1,6 @@
 use Rattle.std.proofs.Common.{length, ◌-◌, ◌≡◌}
-use Rattle.drda_gateway.proofs.Ends.{GoesOn}
-use Rattle.drda_gateway.proofs.input.read_all.Given as goal
+use Rattle.program_ends.proofs.Ends.{GoesOn}
+use Rattle.program_ends.proofs.input.read_all.Given as goal
 
 -- the text so far is what the source gave, and no read has failed or met the end
 abbrev pub invariant-loop-buf : goal.invariant-loop-buf

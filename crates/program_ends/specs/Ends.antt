@@ -5,8 +5,8 @@ use Rattle.link_ends.specs.Counts.{Rose, one_more, counted}
 use Rattle.link_ends.specs.Source.{SourceState}
 use Rattle.link_ends.specs.Sink.{SinkState, after_failed_write}
 use Rattle.hex_lines.specs.Lines.{most_bytes}
-use Rattle.drda_gateway.specs.declared.input.ReadError.{ReadError}
-use Rattle.drda_gateway.specs.declared.input.ReadError.TheVariants.{Fault, NoMemory}
+use Rattle.program_ends.specs.declared.input.ReadError.{ReadError}
+use Rattle.program_ends.specs.declared.input.ReadError.TheVariants.{Fault, NoMemory}
 
 -- a source gave the text, where it tells its bytes, and has what followed it left
 abbrev pub Gave : SourceState → SourceState → List ℕ → Type 0

@@ -1,5 +1,5 @@
 ghost use Rattle.std.specs.Prelude.{OnOk, OnErr};
-ghost use Rattle.drda_gateway.specs.Ends.{Took, BrokeOff, Offered};
+ghost use Rattle.program_ends.specs.Ends.{Took, BrokeOff, Offered};
 
 use link_ends::{Failed, Sink};
 

@@ -1,8 +1,8 @@
 use Rattle.std.proofs.Common.{◌≡◌, ◌++◌, List, ℕ, false, take, subst, sym, arith, rules}
 use Rattle.link_ends.specs.Source.{SourceState}
-use Rattle.drda_gateway.specs.Ends.{ReadSome}
-use Rattle.drda_gateway.proofs.Ends.{GoesOn, goes_on_more, was_read_some, broke_off}
-use Rattle.drda_gateway.proofs.input.read_all.Goals as goal
+use Rattle.program_ends.specs.Ends.{ReadSome}
+use Rattle.program_ends.proofs.Ends.{GoesOn, goes_on_more, was_read_some, broke_off}
+use Rattle.program_ends.proofs.input.read_all.Goals as goal
 
 pub loop-buf-preserved : goal.loop-buf-preserved
 loop-buf-preserved g c =

@@ -1,5 +1,5 @@
 ghost use Rattle.std.specs.Prelude.{◌≡◌, IfOk, IfErr};
-ghost use Rattle.drda_gateway.specs.Ends.{WasReadUp, ReadFails};
+ghost use Rattle.program_ends.specs.Ends.{WasReadUp, ReadFails};
 
 use hex_lines::MOST_BYTES;
 use link_ends::{NoMemory, Octets, Source};
@@ -15,7 +15,7 @@ pub enum ReadError {
 }
 
 impl From<NoMemory> for ReadError {
-    ghost use Rattle.drda_gateway.specs.declared.input.ReadError.TheVariants.{NoMemory as OutOfMemory};
+    ghost use Rattle.program_ends.specs.declared.input.ReadError.TheVariants.{NoMemory as OutOfMemory};
 
     ghost from_gives = { λ _ e. e ≡ OutOfMemory };
 

@@ -1,6 +1,6 @@
 use Rattle.std.proofs.Common.{length, take, ◌-◌, ◌≤◌}
-use Rattle.drda_gateway.specs.Ends.{Took}
-use Rattle.drda_gateway.proofs.output.write_all.Given as goal
+use Rattle.program_ends.specs.Ends.{Took}
+use Rattle.program_ends.proofs.output.write_all.Given as goal
 
 -- the text up to this place was taken, and no write has failed or was stuck
 abbrev pub invariant-loop-from : goal.invariant-loop-from

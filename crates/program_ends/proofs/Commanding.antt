@@ -6,9 +6,9 @@ use Rattle.link_ends.specs.Counts.{Rose, one_more}
 use Rattle.link_ends.specs.Source.{SourceState}
 use Rattle.link_ends.specs.Sink.{SinkState}
 use Rattle.hex_lines.specs.Lines.{most_bytes}
-use Rattle.drda_gateway.specs.Command.{WroteAll, WroteSome}
-use Rattle.drda_gateway.specs.Ends.{WasReadUp, ReadBrokeOff, Took, BrokeOff, NoReadFailed, NoWriteFailed}
-use Rattle.drda_gateway.proofs.Ends.{to_end}
+use Rattle.program_ends.specs.Command.{WroteAll, WroteSome}
+use Rattle.program_ends.specs.Ends.{WasReadUp, ReadBrokeOff, Took, BrokeOff, NoReadFailed, NoWriteFailed}
+use Rattle.program_ends.proofs.Ends.{to_end}
 
 -- ---- a count that rose by one
 

@@ -3,7 +3,7 @@
 use Rattle.std.specs.Prelude.{ℕ, List, ◌≡◌, Result, Ok, Err, true}
 use Rattle.link_ends.specs.Source.{SourceState}
 use Rattle.link_ends.specs.Sink.{SinkState}
-use Rattle.drda_gateway.specs.Ends.{WasRead, WasReadUp, Took, BrokeOff, Offered}
+use Rattle.program_ends.specs.Ends.{WasRead, WasReadUp, Took, BrokeOff, Offered}
 
 -- The source was read to its end, and the sink took all that shows what its text says.
 pub record WroteAll {A F : Type 0} (read_as : List ℕ → Result A F) (shown : A → List ℕ)

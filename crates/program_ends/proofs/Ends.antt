@@ -9,7 +9,7 @@ use Rattle.link_ends.specs.Counts.{counted, one_more}
 use Rattle.link_ends.specs.Source.{SourceState, AreNext, IsGiven, IsNotGiven, meets_end}
 use Rattle.link_ends.specs.Sink.{SinkState, IsTaken, after_write}
 use Rattle.hex_lines.specs.Lines.{most_bytes}
-use Rattle.drda_gateway.specs.Ends.{Gave, WasRead, WasReadUp, ReadBrokeOff, Took, with_taken, after_stuck_write}
+use Rattle.program_ends.specs.Ends.{Gave, WasRead, WasReadUp, ReadBrokeOff, Took, with_taken, after_stuck_write}
 
 -- ---- reading
 
