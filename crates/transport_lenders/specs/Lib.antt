@@ -1,0 +1,2 @@
+pub mod Lender
+pub mod Shares
