@@ -81,7 +81,9 @@ ends_by_reading {S} {U} m old before new c end going broke =
       said =
           broke.moved.said ∙ none_more before.taken ∙ going.said
           ∙ ap (more old.taken) (sym (take-length c.answered) ∙ ap (λ (d : ConversationState U). take (length c.answered) d.answered) going.conversation);
-      all = λ _. let same : length c.answered ≡ length (conversed m going.found).answered = ap (λ (d : ConversationState U). length d.answered) going.conversation in omega (arith, same);
+      all = λ _.
+          let same : length c.answered ≡ length (conversed m going.found).answered =
+          ap (λ (d : ConversationState U). length d.answered) going.conversation in omega (arith, same);
       dead = λ _. sym (ap (λ (d : ConversationState U). d.dead) going.conversation) ∙ going.alive ∙ sym (not_dead end broke.by_link);
       counts = broke.moved.counts ∙ ap (counts_after end true) going.counts;
     }
@@ -159,7 +161,9 @@ is_done {S} {U} m old now new written rest c took moved dead =
           moved.said ∙ ap (λ (told : Option (List ℕ)). more told rest) took.said ∙ more_more old.taken written rest
           ∙ ap (more old.taken)
           (sym took.answered ∙ sym (take-length c.answered) ∙ ap (λ (d : ConversationState U). take (length c.answered) d.answered) took.conversation);
-      all = λ _. let same : length c.answered ≡ length (conversed m took.found).answered = ap (λ (d : ConversationState U). length d.answered) took.conversation in omega (arith, same);
+      all = λ _.
+          let same : length c.answered ≡ length (conversed m took.found).answered =
+          ap (λ (d : ConversationState U). length d.answered) took.conversation in omega (arith, same);
       dead = λ _. sym (ap (λ (d : ConversationState U). d.dead) took.conversation) ∙ dead;
       counts = moved.counts ∙ took.counts;
     }
@@ -201,7 +205,8 @@ rest_is m c shared piece =
     ap (drop (length c.answered)) grows.is ∙ drop-append_seam c.answered grows.more
 
 -- A piece was read and taken, and what is answered to it is written, or a call of the link ended the conversation.
-pub exchanges : {S U : Type 0} (m : Meaning S U) (old before now new : LinkState) (c c_now : ConversationState U) (shared : S) (piece : List ℕ) (result : Option MemberEnd) →
+pub exchanges : {S U : Type 0} (m : Meaning S U) (old before now new : LinkState) (c c_now : ConversationState U)
+    (shared : S) (piece : List ℕ) (result : Option MemberEnd) →
     Going m old before c → Moved before now piece [] (counts_of before) → c_now ≡ after_found m c (record { shared = shared; piece = piece }) →
     SaysRest now new (drop (length c.answered) c_now.answered) c_now.dead result → Exchanged m old new c_now result
 exchanges {S} {U} m old before now new c c_now shared piece result going moved is says =
@@ -210,7 +215,8 @@ exchanges {S} {U} m old before now new c c_now shared piece result going moved i
     subst (λ (rest : List ℕ). SaysRest now new rest (after_found m c one).dead result) (rest_is m c shared piece)
     (subst (λ (d : ConversationState U). SaysRest now new (drop (length c.answered) d.answered) d.dead result) is says) in
     subst (λ (d : ConversationState U). Exchanged m old new d result) (sym is)
-    (exchanges_by m old now new c.answered (taking_grows m piece (member c shared)).more (after_found m c one) result (takes m old before now c shared piece going moved) said)
+    (exchanges_by m old now new c.answered (taking_grows m piece (member c shared)).more (after_found m c one) result
+        (takes m old before now c shared piece going moved) said)
 
 -- no byte that was answered is taken back
 pub answered_within : {S U : Type 0} (m : Meaning S U) (c : ConversationState U) (shared : S) (piece : List ℕ) →

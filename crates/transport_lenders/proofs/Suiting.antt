@@ -110,7 +110,8 @@ module _ {L : Type 0} where
   numbered_is : (number : ℕ) (resting : List (Resting L)) → IfSome (numbered_so number resting) (λ t. t.grant.number ≡ number)
   numbered_is number [] = tt
   numbered_is number (t ∷ others) =
-      elim (eqb t.grant.number number) as (λ b. eqb t.grant.number number ≡ b → IfSome (cond b (Some t) (numbered_so number others)) (λ u. u.grant.number ≡ number)) [
+      elim (eqb t.grant.number number)
+      as (λ b. eqb t.grant.number number ≡ b → IfSome (cond b (Some t) (numbered_so number others)) (λ u. u.grant.number ≡ number)) [
         | true ↦ λ yes. grind (arith, nat_tests)
         | false ↦ λ no. numbered_is number others
       ] refl
