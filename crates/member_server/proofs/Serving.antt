@@ -216,7 +216,7 @@ exchanges {S} {U} m old before now new c c_now shared piece result going moved i
     (subst (λ (d : ConversationState U). SaysRest now new (drop (length c.answered) d.answered) d.dead result) is says) in
     subst (λ (d : ConversationState U). Exchanged m old new d result) (sym is)
     (exchanges_by m old now new c.answered (taking_grows m piece (member c shared)).more (after_found m c one) result
-        (takes m old before now c shared piece going moved) said)
+    (takes m old before now c shared piece going moved) said)
 
 -- no byte that was answered is taken back
 pub answered_within : {S U : Type 0} (m : Meaning S U) (c : ConversationState U) (shared : S) (piece : List ℕ) →

@@ -8,7 +8,7 @@ use Rattle.member_server.proofs.session.answer.Goals as goal
 pub say_rest-requires : goal.say_rest-requires
 say_rest-requires g c =
     let within : length c.args.conversation.now.answered
-        ≤ length (after_found g.G.Group.meaning c.args.conversation.now (record { shared = c.in-Ok.ensures.0; piece = c.args.piece.now })).answered =
+    ≤ length (after_found g.G.Group.meaning c.args.conversation.now (record { shared = c.in-Ok.ensures.0; piece = c.args.piece.now })).answered =
     answered_within g.G.Group.meaning c.args.conversation.now c.in-Ok.ensures.0 c.args.piece.now in
     let before : length c.out-before.result.now ≡ length c.args.conversation.now.answered =
     ap (λ (bytes : List ℕ). length bytes) c.out-before.ensures in
