@@ -1,0 +1,26 @@
+-- What an input makes of a session, whether it finds its memory or not. This project's own.
+use Rattle.std.specs.Prelude.{ℕ, Bool, true, false, List}
+use Rattle.gateway_session.specs.Session.{Session}
+use Rattle.gateway_session.specs.Memory.{State, step, said_in, app_end_in, out_of_memory, to_say_of, rest_after_said, without_list}
+use Rattle.gateway_session.specs.Inputs.{Input, after_input}
+use Rattle.gateway_session.specs.Inputs as input
+
+-- it finds its memory
+abbrev pub fed : Input → State → State
+fed (input.Said count) state = said_in count state
+fed (input.AppEnd failed) state = app_end_in failed state
+fed i state = step (after_input i) state
+
+-- what of a finished reply is left to be said, where it doesn't
+abbrev pub rest_of : Input → Session → List ℕ
+rest_of (input.Said count) s = rest_after_said count s
+rest_of _ s = to_say_of s
+
+-- it does, or doesn't
+abbrev pub after_feeding : Bool → Input → State → State
+after_feeding true i state = fed i state
+after_feeding false i state = out_of_memory (rest_of i) state
+
+-- after a turn: a list of members that was told is asked for
+abbrev pub after_turn : Bool → Input → State → State
+after_turn memory i state = without_list (after_feeding memory i state)

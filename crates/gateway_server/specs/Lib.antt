@@ -1,0 +1,7 @@
+pub mod Leases
+pub mod Events
+pub mod Feeding
+pub mod Turned
+pub mod Runs
+pub mod Dialling
+pub mod Went
