@@ -5,7 +5,7 @@ use Rattle.std.proofs.Common.{Option, Some, None, refl, sym, ap, subst, ◌∙�
 use Rattle.std.specs.Prelude.{option_map, nat_lt}
 use Rattle.std.specs.List.{AllByRecursion}
 use Rattle.std.specs.BTreeSet.{BTreeSet}
-use Rattle.std.proofs.lemmas.Bool.{false≢true}
+use Rattle.std.proofs.lemmas.Bool.{false≢true, and_left, and_right, ne_eqb}
 use Rattle.std.proofs.lemmas.Bool.Decides.{nat_tests}
 use Rattle.std.proofs.lemmas.List.{map-set, map-append, length-map, length-append, length-replicate}
 use Rattle.link_ends.proofs.Lists.{all_set, all_get}
@@ -15,7 +15,6 @@ use Rattle.gateway_wires.specs.Wires.{WiresState, with_room, with_line}
 use Rattle.gateway_wires.specs.Inside.{Dialled, fell_of, has_dropped, seen_line, wires_in, flies_to, is_in, OfDialled, WasDialled, AreWires, Sorts}
 use Rattle.gateway_wires.specs.Inside.{SortsOld, HasGrown, IsIn}
 use Rattle.gateway_wires.proofs.Reading.{any_room_same, room_same, has_room}
-use Rattle.gateway_wires.proofs.Falling.{both_off, unequal}
 
 map_none : {A B : Type 0} (f : A → B) (n : ℕ) → map (option_map f) (replicate n None) ≡ replicate n None
 map_none f zero = refl
@@ -25,7 +24,7 @@ map_room : {A B : Type 0} (f : A → B) (number : ℕ) (lines : List (Option A))
 map_room f number lines =
     map-append (option_map f) lines (replicate (suc number - length lines) None)
     ∙ ap (λ (xs : List (Option _)). map (option_map f) lines ++ xs) (map_none f (suc number - length lines))
-    ∙ ap (λ (n : ℕ). map (option_map f) lines ++ replicate (suc number - n) None) (sym (length-map (option_map f) lines))
+    ∙ ap (λ (n : ℕ). map (option_map f) lines ++ replicate (suc number - n) None) (sym (length-map lines (option_map f)))
 
 not_later : (a b : ℕ) → b ≤ a → nat_lt a b ≡ false
 not_later a b le = go (nat_lt a b) refl
@@ -97,18 +96,14 @@ module _ {U : Type 0} (fell : List ℕ) (down : List Bool) (flying flying' : Lis
         ∙ ap (λ (o : Option (Dialled U)). flies_to member (option_map (seen_line fell) o)) (sym there)
     left (Some y) sorts there member in_range = by_equal member y.line.member
         (λ e. ap (λ (m : ℕ). is_in flying' m number) e ∙ sorts.this)
-        (λ ne. sorts.others member number (off (member == y.line.member) (number == number) (unequal member y.line.member ne))
+        (λ ne. sorts.others member number (and_left (member == y.line.member) (number == number) (ne_eqb member y.line.member ne))
         ∙ wires.flies member number in_range
         ∙ ap (λ (o : Option (Dialled U)). flies_to member (option_map (seen_line fell) o)) (sym there)
-        ∙ both_off (is_flying_on (seen_line fell y)) (y.line.member == member) (unequal y.line.member member (λ e. ne (sym e))))
-      where
-        off : (a b : Bool) → a ≡ false → (a && b) ≡ false
-        off true b e = absurd (false≢true (sym e))
-        off false b e = refl
+        ∙ and_right (is_flying_on (seen_line fell y)) (y.line.member == member) (ne_eqb y.line.member member (λ e. ne (sym e))))
 
     others : (old : Option (Dialled U)) → SortsOld number old flying flying' → (member other : ℕ) → other ≢ number → is_in flying' member other ≡ is_in flying member other
     others None sorts member other ne = ap (λ (f : List (BTreeSet ℕ)). is_in f member other) sorts
-    others (Some y) sorts member other ne = sorts.others member other (both_off (member == y.line.member) (other == number) (unequal other number ne))
+    others (Some y) sorts member other ne = sorts.others member other (and_right (member == y.line.member) (other == number) (ne_eqb other number ne))
 
     size : (old : Option (Dialled U)) → SortsOld number old flying flying' → length flying' ≡ length flying
     size None sorts = ap length sorts

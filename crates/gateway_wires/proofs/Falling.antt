@@ -9,95 +9,70 @@ use Rattle.std.specs.List.{AllByRecursion}
 use Rattle.std.specs.BTreeSet.{BTreeSet, contains}
 use Rattle.std.proofs.lemmas.List.{length-set}
 use Rattle.link_ends.proofs.Lists.{all_get}
-use Rattle.std.proofs.lemmas.Bool.{false≢true}
+use Rattle.std.proofs.lemmas.Bool.{false≢true, and_right, or_right, ne_eqb, lt-ltb}
 use Rattle.std.proofs.lemmas.Bool.Decides.{nat_tests}
 use Rattle.plain_model.proofs.Puts.{by_equal}
 use Rattle.gateway_wires.specs.Line.{LineState, is_flying_on, is_empty, fallen_with}
 use Rattle.gateway_wires.specs.Wires.{with_down}
 use Rattle.gateway_wires.specs.Inside.{Dialled, fell_of, has_dropped, seen_line, wires_in, flies_to, is_in, is_in_set, OfDialled, WasDialled, AreWires}
 
-or_true : (a b : Bool) → b ≡ true → (a || b) ≡ true
-or_true true b e = refl
-or_true false b e = e
-
 no_flight : (a b : Bool) → a ≡ true → (not a && b) ≡ false
 no_flight true b e = refl
 no_flight false b e = absurd (false≢true e)
 
-pub both_off : (a b : Bool) → b ≡ false → (a && b) ≡ false
-both_off true b e = e
-both_off false b e = refl
-
-pub unequal : (a b : ℕ) → a ≢ b → eqb a b ≡ false
-unequal a b ne = go (eqb a b) refl
-  where
-    go : (t : Bool) → eqb a b ≡ t → eqb a b ≡ false
-    go true e = absurd (ne (eqb-true a b e))
-    go false e = e
-
-earlier : (a b : ℕ) → a < b → nat_lt a b ≡ true
-earlier a b lt = go (nat_lt a b) refl
-  where
-    go : (t : Bool) → nat_lt a b ≡ t → nat_lt a b ≡ true
-    go true e = e
-    go false e = grind (arith, nat_tests)
+if_off : (b : Bool) → false ≡ (if b then false else false)
+if_off true = refl
+if_off false = refl
 
 module _ {U : Type 0} (fell : List ℕ) (member count : ℕ) (within : member < length fell) where
-  abbrev fell_now : List ℕ
-  fell_now = set fell member count
-
-  dropped_after : (x : Dialled U) → WasDialled count x → has_dropped fell_now x ≡ (if x.line.member == member then true else has_dropped fell x)
+  dropped_after : (x : Dialled U) → WasDialled count x → has_dropped (set fell member count) x ≡ (if x.line.member == member then true else has_dropped fell x)
   dropped_after x was = by_equal x.line.member member
-      (λ e. or_true x.line.dropped (nat_lt x.since (fell_of fell_now x.line.member))
-      (ap (λ (m : ℕ). nat_lt x.since (fell_of fell_now m)) e
-      ∙ ap (nat_lt x.since) (get_or-set_same fell member count 0 within) ∙ earlier x.since count was.before)
+      (λ e. or_right x.line.dropped (nat_lt x.since (fell_of (set fell member count) x.line.member))
+      (ap (λ (m : ℕ). nat_lt x.since (fell_of (set fell member count) m)) e
+      ∙ ap (nat_lt x.since) (get_or-set_same fell member count 0 within) ∙ lt-ltb x.since count was.before)
       ∙ ap (λ (b : Bool). if b then true else has_dropped fell x) (sym (eq-eqb x.line.member member e)))
       (λ ne. ap (λ (n : ℕ). x.line.dropped || nat_lt x.since n) (get_or-set_other fell member x.line.member count 0 ne)
-      ∙ ap (λ (b : Bool). if b then true else has_dropped fell x) (sym (unequal x.line.member member ne)))
+      ∙ ap (λ (b : Bool). if b then true else has_dropped fell x) (sym (ne_eqb x.line.member member ne)))
 
-  line_after : (x : Dialled U) → WasDialled count x → seen_line fell_now x ≡ fallen_with member (seen_line fell x)
+  line_after : (x : Dialled U) → WasDialled count x → seen_line (set fell member count) x ≡ fallen_with member (seen_line fell x)
   line_after x was = ap (λ (b : Bool). record x.line { dropped = b }) (dropped_after x was)
 
   pub lines_after : (lines : List (Option (Dialled U))) → AllByRecursion (OfDialled (WasDialled count)) lines
-      → map (option_map (seen_line fell_now)) lines ≡ map (option_map (fallen_with member)) (map (option_map (seen_line fell)) lines)
+      → map (option_map (seen_line (set fell member count))) lines ≡ map (option_map (fallen_with member)) (map (option_map (seen_line fell)) lines)
   lines_after [] all = refl
   lines_after (None ∷ lines) all = ap (λ (ls : List (Option (LineState U))). None ∷ ls) (lines_after lines all.1)
   lines_after (Some x ∷ lines) all =
-      ap (λ (y : LineState U). Some y ∷ map (option_map (seen_line fell_now)) lines) (line_after x all.0)
+      ap (λ (y : LineState U). Some y ∷ map (option_map (seen_line (set fell member count))) lines) (line_after x all.0)
       ∙ ap (λ (ls : List (Option (LineState U))). Some (fallen_with member (seen_line fell x)) ∷ ls) (lines_after lines all.1)
 
   -- none of this member flies, and of another as before
   flies_of : (x : Dialled U) → WasDialled count x → (another : ℕ)
-      → flies_to another (Some (seen_line fell_now x)) ≡ (if another == member then false else flies_to another (Some (seen_line fell x)))
+      → flies_to another (Some (seen_line (set fell member count) x)) ≡ (if another == member then false else flies_to another (Some (seen_line fell x)))
   flies_of x was another = by_equal another member
       (λ e. by_equal x.line.member member
       (λ same. ap (λ (b : Bool). (not b && not (is_empty x.line.flying)) && x.line.member == another)
       (dropped_after x was ∙ ap (λ (b : Bool). if b then true else has_dropped fell x) (eq-eqb x.line.member member same))
       ∙ ap (λ (b : Bool). if b then false else flies_to another (Some (seen_line fell x))) (sym (eq-eqb another member e)))
-      (λ other. both_off (is_flying_on (seen_line fell_now x)) (x.line.member == another)
-      (unequal x.line.member another (λ same. other (same ∙ e)))
+      (λ other. and_right (is_flying_on (seen_line (set fell member count) x)) (x.line.member == another)
+      (ne_eqb x.line.member another (λ same. other (same ∙ e)))
       ∙ ap (λ (b : Bool). if b then false else flies_to another (Some (seen_line fell x))) (sym (eq-eqb another member e))))
       (λ ne. by_equal x.line.member another
       (λ same. ap (λ (b : Bool). (not b && not (is_empty x.line.flying)) && x.line.member == another)
-      (dropped_after x was ∙ ap (λ (b : Bool). if b then true else has_dropped fell x) (unequal x.line.member member (λ is. ne (sym same ∙ is))))
-      ∙ ap (λ (b : Bool). if b then false else flies_to another (Some (seen_line fell x))) (sym (unequal another member ne)))
-      (λ other. both_off (is_flying_on (seen_line fell_now x)) (x.line.member == another) (unequal x.line.member another other)
-      ∙ sym (both_off (is_flying_on (seen_line fell x)) (x.line.member == another) (unequal x.line.member another other))
-      ∙ ap (λ (b : Bool). if b then false else flies_to another (Some (seen_line fell x))) (sym (unequal another member ne))))
-
-  if_off : (b : Bool) → false ≡ (if b then false else false)
-  if_off true = refl
-  if_off false = refl
+      (dropped_after x was ∙ ap (λ (b : Bool). if b then true else has_dropped fell x) (ne_eqb x.line.member member (λ is. ne (sym same ∙ is))))
+      ∙ ap (λ (b : Bool). if b then false else flies_to another (Some (seen_line fell x))) (sym (ne_eqb another member ne)))
+      (λ other. and_right (is_flying_on (seen_line (set fell member count) x)) (x.line.member == another) (ne_eqb x.line.member another other)
+      ∙ sym (and_right (is_flying_on (seen_line fell x)) (x.line.member == another) (ne_eqb x.line.member another other))
+      ∙ ap (λ (b : Bool). if b then false else flies_to another (Some (seen_line fell x))) (sym (ne_eqb another member ne))))
 
   pub flies_after_down : (x : Option (Dialled U)) → OfDialled (WasDialled count) x → (another : ℕ)
-      → flies_to another (option_map (seen_line fell_now) x) ≡ (if another == member then false else flies_to another (option_map (seen_line fell) x))
+      → flies_to another (option_map (seen_line (set fell member count)) x) ≡ (if another == member then false else flies_to another (option_map (seen_line fell) x))
   flies_after_down None was another = if_off (another == member)
   flies_after_down (Some x) was another = flies_of x was another
 
 -- ---- a list of which one place is written
 
 get_set_same : {A : Type 0} (xs : List A) (i : ℕ) (x : A) → i < length xs → slice_get (set xs i x) i ≡ Some x
-get_set_same [] i x within = absurd (arith within)
+get_set_same [] i x within = absurd (omega arith)
 get_set_same (y ∷ xs) zero x within = refl
 get_set_same (y ∷ xs) (suc i) x within = get_set_same xs i x (omega arith)
 
@@ -118,7 +93,7 @@ module _ {U : Type 0} (fell : List ℕ) (lines : List (Option (Dialled U))) (fly
       (get_set_same flying member none (let h = wires.all_members in omega (arith, h, of_member)))
       ∙ empty number ∙ ap (λ (b : Bool). if b then false else is_in flying another number) (sym (eq-eqb another member e)))
       (λ ne. ap (λ (o : Option (BTreeSet ℕ)). is_in_set o number) (get_set_other flying member another none ne)
-      ∙ ap (λ (b : Bool). if b then false else is_in flying another number) (sym (unequal another member ne)))
+      ∙ ap (λ (b : Bool). if b then false else is_in flying another number) (sym (ne_eqb another member ne)))
 
   flies_now : (another number : ℕ) → another < 33 → is_in (set flying member none) another number
       ≡ flies_to another (option_map (seen_line (set fell member count)) (get_or lines number None))

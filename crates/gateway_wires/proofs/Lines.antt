@@ -7,6 +7,7 @@ use Rattle.std.specs.List.{AllByRecursion}
 use Rattle.std.specs.BTreeSet.{BTreeSet}
 use Rattle.std.proofs.Math.ListN.{get_or-map}
 use Rattle.std.proofs.lemmas.List.{map-set, set-get_or}
+use Rattle.std.proofs.lemmas.Bool.{and_left, and_right, ne_eqb}
 use Rattle.std.proofs.lemmas.Option.{none-some}
 use Rattle.link_ends.proofs.Lists.{all_set}
 use Rattle.plain_model.proofs.Puts.{by_equal}
@@ -56,19 +57,12 @@ module _ {U : Type 0} (fell : List ℕ) (down : List Bool) where
 
 past : {A : Type 0} (xs : List A) (n : ℕ) (d : A) → get_or xs n d ≢ d → n < length xs
 past [] n d other = absurd (other refl)
-past (x ∷ xs) n d other = go n other
-  where
-    go : (n : ℕ) → get_or (x ∷ xs) n d ≢ d → n < length (x ∷ xs)
-    go zero other = arith
-    go (suc n) other = let h = past xs n d other in omega arith
+past (x ∷ xs) zero d other = omega arith
+past (x ∷ xs) (suc n) d other = let h = past xs n d other in omega (arith, h)
 
 -- it is there
 pub there : {A : Type 0} (xs : List (Option A)) (n : ℕ) (x : A) → Some x ≡ get_or xs n None → n < length xs
 there xs n x is = past xs n None (λ e. none-some x (sym (is ∙ e)))
-
-both_false : (a b : Bool) → b ≡ false → (a && b) ≡ false
-both_false true b e = e
-both_false false b e = refl
 
 module _ {U : Type 0} (fell : List ℕ) (flying flying' : List (BTreeSet ℕ)) (lines : List (Option (Dialled U))) (number : ℕ) where
   -- all transports but this one, or this one of another member
@@ -85,32 +79,21 @@ module _ {U : Type 0} (fell : List ℕ) (flying flying' : List (BTreeSet ℕ)) (
       (λ e. subst (λ (n : ℕ). is_in flying' member n ≡ flies_to member (option_map (seen_line fell) (get_or (set lines number (Some x')) n None))) (sym e)
       (at_number ∙ ap (λ (o : Option (Dialled U)). flies_to member (option_map (seen_line fell) o))
       (sym (get_or-set_same lines number (Some x') None (there lines number x is)))))
-      (λ ne. others member other (both_false (eqb member x.line.member) (eqb other number) (eqb_off other number ne))
+      (λ ne. others member other (and_right (eqb member x.line.member) (eqb other number) (ne_eqb other number ne))
       ∙ flies member other in_range
       ∙ ap (λ (o : Option (Dialled U)). flies_to member (option_map (seen_line fell) o)) (sym (get_or-set_other lines number other (Some x') None ne)))
     where
-      eqb_off : (a b : ℕ) → a ≢ b → eqb a b ≡ false
-      eqb_off a b ne = go (eqb a b) refl
-        where
-          go : (t : Bool) → eqb a b ≡ t → eqb a b ≡ false
-          go true e = absurd (ne (eqb-true a b e))
-          go false e = e
+      and_true : (a b : Bool) → b ≡ true → a ≡ (a && b)
+      and_true true b e = sym e
+      and_true false b e = refl
 
       -- the member's own set, or another one
       at_number : is_in flying' member number ≡ (is_flying_on (seen_line fell x') && eqb x'.line.member member)
       at_number = by_equal member x.line.member
           (λ e. ap (λ (m : ℕ). is_in flying' m number) e ∙ this
           ∙ and_true (is_flying_on (seen_line fell x')) (eqb x'.line.member member) (eq-eqb x'.line.member member (same ∙ sym e)))
-          (λ ne. others member number (and_false_left (eqb member x.line.member) (eqb number number) (eqb_off member x.line.member ne))
+          (λ ne. others member number (and_left (eqb member x.line.member) (eqb number number) (ne_eqb member x.line.member ne))
           ∙ flies member number in_range
           ∙ ap (λ (o : Option (Dialled U)). flies_to member (option_map (seen_line fell) o)) (sym is)
-          ∙ both_false (is_flying_on (seen_line fell x)) (eqb x.line.member member) (eqb_off x.line.member member (λ e. ne (sym e)))
-          ∙ sym (both_false (is_flying_on (seen_line fell x')) (eqb x'.line.member member) (eqb_off x'.line.member member (λ e. ne (sym (sym same ∙ e))))))
-
-      and_true : (a b : Bool) → b ≡ true → a ≡ (a && b)
-      and_true true b e = sym e
-      and_true false b e = refl
-
-      and_false_left : (a b : Bool) → a ≡ false → (a && b) ≡ false
-      and_false_left true b e = absurd (true≢false e)
-      and_false_left false b e = refl
+          ∙ and_right (is_flying_on (seen_line fell x)) (eqb x.line.member member) (ne_eqb x.line.member member (λ e. ne (sym e)))
+          ∙ sym (and_right (is_flying_on (seen_line fell x')) (eqb x'.line.member member) (ne_eqb x'.line.member member (λ e. ne (sym (sym same ∙ e))))))

@@ -22,7 +22,7 @@ IsFirstOf numbers None = (number : ℕ) → contains nat_cmp numbers number ≡ 
 IsFirstOf numbers (Some first) = (contains nat_cmp numbers first ≡ true) × ((number : ℕ) → number < first → contains nat_cmp numbers number ≡ false)
 
 pub lowest_none : (flying : List (BTreeSet ℕ)) → IsLowestIn 0 flying None
-lowest_none flying member number lt = absurd (arith lt)
+lowest_none flying member number lt = absurd (omega arith)
 
 module _ (flying : List (BTreeSet ℕ)) (count : ℕ) (numbers : BTreeSet ℕ) (there : slice_get flying count ≡ Some numbers) where
   here : (number : ℕ) → is_in flying count number ≡ contains nat_cmp numbers number
@@ -44,16 +44,22 @@ module _ (flying : List (BTreeSet ℕ)) (count : ℕ) (numbers : BTreeSet ℕ) (
   lowest_next (Some low) (Some first) before this = go (nat_lt first low) refl
     where
       go : (b : Bool) → nat_lt first low ≡ b → IsLowestIn (count + 1) flying (if b then Some first else Some low)
-      go true e = ((count, here first ∙ this.0), λ member number lt below.
-          let less : first < low = grind (arith, nat_tests) in
-          off member number lt (λ earlier. before.1 member number earlier (omega (arith, below, less))) (this.1 number below))
-      go false e = (before.0, λ member number lt below.
-          let most : low ≤ first = grind (arith, nat_tests) in
-          off member number lt (λ earlier. before.1 member number earlier below) (this.1 number (omega (arith, below, most))))
+      go true e = (
+        (count, here first ∙ this.0),
+        λ member number lt below.
+            let less : first < low = grind (arith, nat_tests) in
+            off member number lt (λ earlier. before.1 member number earlier (omega (arith, below, less))) (this.1 number below),
+      )
+      go false e = (
+        before.0,
+        λ member number lt below.
+            let most : low ≤ first = grind (arith, nat_tests) in
+            off member number lt (λ earlier. before.1 member number earlier below) (this.1 number (omega (arith, below, most))),
+      )
 
 beyond : (flying : List (BTreeSet ℕ)) (member number : ℕ) → length flying ≤ member → is_in flying member number ≡ false
 beyond [] member number le = refl
-beyond (s ∷ flying) zero number le = absurd (arith le)
+beyond (s ∷ flying) zero number le = absurd (omega arith)
 beyond (s ∷ flying) (suc member) number le = beyond flying member number (omega (arith, le))
 
 -- of all of them

@@ -36,18 +36,23 @@ line_changed number change w n = by_equal n number
 
 -- room changes nothing
 pub any_room_same : {A : Type 0} (room : ℕ) (lines : List (Option A)) (n : ℕ) → get_or (lines ++ replicate room None) n None ≡ get_or lines n None
-any_room_same room lines n = within lines n
-    (λ lt. get_or_append_left lines (replicate room None) n None lt)
+any_room_same {A} room lines n = within lines n
+    (λ lt. get_or_append_left lines (replicate room None) None n lt)
     (λ le. within (lines ++ replicate room None) n
     (λ lt. get_or-append_right lines (replicate room None) (length lines) n None refl le
-    ∙ get_or-replicate room (n - length lines) None None ∙ sym (get_or_past lines n None le))
+    ∙ get_or-replicate room (n - length lines) None None (in_room le lt) ∙ sym (get_or_past lines n None le))
     (λ past. get_or_past (lines ++ replicate room None) n None past ∙ sym (get_or_past lines n None le)))
+  where
+    in_room : length lines ≤ n → n < length (lines ++ replicate room None) → n - length lines < room
+    in_room le lt = omega (arith, length-append lines (replicate room None), length-replicate {A = Option A} room None)
 
 pub room_same : {A : Type 0} (number : ℕ) (lines : List (Option A)) (n : ℕ) → get_or (with_room number lines) n None ≡ get_or lines n None
 room_same number lines n = any_room_same (suc number - length lines) lines n
 
 pub has_room : {A : Type 0} (number : ℕ) (lines : List (Option A)) → number < length (with_room number lines)
-has_room number lines = omega (arith, length-append lines (replicate (suc number - length lines) None), length-replicate (suc number - length lines) None)
+has_room {A} number lines =
+    let room : ℕ = suc number - length lines in
+    omega (arith, length-append lines (replicate room None), length-replicate {A = Option A} room None)
 
 pub line_dialled : {U : Type 0} (number : ℕ) (x : LineState U) (w : WiresState U) (n : ℕ)
     → line_of (with_line number x w) n ≡ put (line_of w) number (Some x) n

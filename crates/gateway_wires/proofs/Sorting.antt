@@ -6,19 +6,16 @@ use Rattle.std.specs.Prelude.{option_map, nat_lt, if◌then◌else◌, OnOk, OnE
 use Rattle.std.specs.List.{AllByRecursion}
 use Rattle.std.specs.BTreeSet.{BTreeSet}
 use Rattle.std.proofs.lemmas.Bool.{false≢true}
+use Rattle.std.proofs.Math.Dec.{eqb-suc-zero}
 use Rattle.link_ends.proofs.Lists.{all_set, all_get}
 use Rattle.gateway_wires.specs.Line.{LineState, with_sent, with_dropped, is_flying_on, is_empty}
 use Rattle.gateway_wires.specs.Inside.{Dialled, on_dialled, fell_of, has_dropped, seen_line, flies_to, is_in, OfDialled, WasDialled, AreWires, Sorts}
 use Rattle.gateway_wires.specs.Inside.{SortsOut, EntersIf, LeavesAtRest, AreSame}
 use Rattle.gateway_wires.proofs.Lines.{flies_after, Others}
 
-none_left : (bytes : List ℕ) → (length bytes == 0) ≡ true → is_empty bytes ≡ true
-none_left [] e = refl
-none_left (byte ∷ bytes) e = absurd (false≢true e)
-
-some_left : (bytes : List ℕ) → (length bytes == 0) ≡ false → is_empty bytes ≡ false
-some_left [] e = absurd (false≢true (sym e))
-some_left (byte ∷ bytes) e = refl
+empty_by_length : (bytes : List ℕ) → is_empty bytes ≡ (length bytes == 0)
+empty_by_length [] = refl
+empty_by_length (byte ∷ bytes) = sym (eqb-suc-zero (length bytes))
 
 and_off : (a b : Bool) → b ≡ true → (a && not b) ≡ false
 and_off true true e = refl
@@ -77,13 +74,13 @@ module _ {U : Type 0} (fell : List ℕ) (flying : List (BTreeSet ℕ)) (lines : 
       go : (t : Bool) → (length x'.line.flying == 0) ≡ t → SortsOut t m number middle flying' → Sorts m number (is_flying_on (seen_line fell x')) flying flying'
       go true e sorts = record {
         size = sorts.size ∙ size;
-        this = sorts.this ∙ sym (and_off (not (has_dropped fell x')) (is_empty x'.line.flying) (none_left x'.line.flying e));
+        this = sorts.this ∙ sym (and_off (not (has_dropped fell x')) (is_empty x'.line.flying) (empty_by_length x'.line.flying ∙ e));
         others = λ another other off. sorts.others another other off ∙ others another other off;
       }
       go false e same = record {
         size = ap length same ∙ size;
         this = ap (λ (f : List (BTreeSet ℕ)). is_in f m number) same ∙ stays e
-            ∙ sym (and_on (not (has_dropped fell x')) (is_empty x'.line.flying) (some_left x'.line.flying e));
+            ∙ sym (and_on (not (has_dropped fell x')) (is_empty x'.line.flying) (empty_by_length x'.line.flying ∙ e));
         others = λ another other off. ap (λ (f : List (BTreeSet ℕ)). is_in f another other) same ∙ others another other off;
       }
 
@@ -118,7 +115,7 @@ module _ {U : Type 0} (fell : List ℕ) (flying : List (BTreeSet ℕ)) (lines : 
 
   module _ (x : Dialled U) (is : Some x ≡ get_or lines number None) (wires : AreWires lines fell flying count) (piece : List ℕ)
       (middle flying' : List (BTreeSet ℕ)) where
-    enters : Bool
+    abbrev pub enters : Bool
     enters = not (is_empty piece) && not (has_dropped fell x)
 
     kept_sent_ok : EntersIf enters x.line.member number flying middle

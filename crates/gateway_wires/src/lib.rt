@@ -3,6 +3,7 @@
 #![tactic(auto)]
 
 mod line;
+mod moving;
 mod wire;
 mod wires;
 

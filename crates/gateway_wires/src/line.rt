@@ -1,4 +1,4 @@
-ghost use Rattle.std.specs.Prelude.{◌≡◌, ◌==◌, ◌≤◌, ◌++◌, not, ◌&&◌, drop, length, IfOk, OnOk, OnErr};
+ghost use Rattle.std.specs.Prelude.{◌≡◌, ◌≤◌, ◌+◌, drop, length, IfOk, OnOk, OnErr};
 ghost use Rattle.gateway_wires.specs.Inside.{on_dialled};
 ghost use Rattle.gateway_wires.specs.Line.{dialled, with_sent, with_acted, acting, with_read, with_dropped, with_conversation, wire};
 
@@ -66,6 +66,7 @@ impl<G: Group> Line<G> {
     }
 
     /// Sends these bytes.
+    #[tactic(auto, using(crate::proofs::Places::drop_joined, crate::proofs::Places::within_joined))]
     pub fn send(&mut self, piece: &[u8]) -> Result<(), NoMemory>
         ensures ok { OnOk result (self.new ≡ on_dialled (with_sent piece.now) self.old) }
         ensures err { OnErr result (self.new ≡ self.old) }
@@ -81,6 +82,7 @@ impl<G: Group> Line<G> {
     }
 
     /// The member acts on the next so many bytes.
+    #[tactic(auto, using(crate::proofs::Places::drop_joined, crate::proofs::Places::within_joined, crate::proofs::Places::drop_passed))]
     pub fn act(&mut self, count: usize, group: &mut G) -> Result<(), NoMemory>
         requires { count ≤ length self.old.line.flying }
         ensures line { OnOk result (self.new ≡ on_dialled (with_acted G.meaning count group.old) self.old) }
@@ -88,12 +90,12 @@ impl<G: Group> Line<G> {
         ensures err { OnErr result (self.new ≡ on_dialled (with_conversation self.new.line.conversation) self.old) }
     {
         let before = self.conversation.out().len();
-        let next = self.acted + count;
-        self.conversation
-            .take(group, &self.wire.to.as_slice()[self.acted..next])?;
-        let answered = self.conversation.out().get(before..).unwrap_or(&[]);
-        self.wire.from.push_all(answered)?;
-        self.acted = next;
+        let piece = &self.wire.to.as_slice()[self.acted..][..count];
+        self.conversation.take(group, piece)?;
+        self.wire
+            .from
+            .push_all(behind(self.conversation.out(), before))?;
+        self.acted = place_behind(self.wire.to.as_slice(), self.acted, count);
         Ok(())
     }
 
@@ -112,11 +114,12 @@ impl<G: Group> Line<G> {
     }
 
     /// The next so many bytes of its answers were read.
+    #[tactic(auto, using(crate::proofs::Places::drop_passed))]
     pub fn count_read(&mut self, count: usize)
         requires { count ≤ length self.old.line.coming }
         ensures { self.new ≡ on_dialled (with_read count) self.old }
     {
-        self.read += count;
+        self.read = place_behind(self.wire.from.as_slice(), self.read, count);
     }
 
     /// The member drops it.
@@ -145,5 +148,30 @@ impl<G: Group> Line<G> {
         ensures { result.now ≡ wire self.now.line }
     {
         &self.wire
+    }
+}
+
+/// The place behind so many more of these bytes.
+#[tactic(auto, using(crate::proofs::Places::place_within))]
+fn place_behind(bytes: &[u8], place: usize, count: usize) -> usize
+    requires place { place ≤ length bytes.now }
+    requires count { count ≤ length (drop place bytes.now) }
+    ensures place { result ≡ place + count }
+    ensures within { result ≤ length bytes.now }
+{
+    // The sum is at most this, so it fits.
+    let _most = bytes.len();
+    place + count
+}
+
+/// The bytes behind a place, none where there are fewer.
+#[tactic(auto, using(crate::proofs::Places::drop_past))]
+fn behind(bytes: &[u8], place: usize) -> &[u8]
+    ensures { result.now ≡ drop place bytes.now }
+{
+    if place < bytes.len() {
+        &bytes[place..]
+    } else {
+        &[]
     }
 }

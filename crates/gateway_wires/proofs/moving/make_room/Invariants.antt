@@ -1,6 +1,6 @@
 use Rattle.std.proofs.Common.{suc, ◌-◌, length}
 use Rattle.gateway_wires.proofs.Rooms.{Makes}
-use Rattle.gateway_wires.proofs.wires.make_room.Given as goal
+use Rattle.gateway_wires.proofs.moving.make_room.Given as goal
 
 abbrev pub invariant-loop-lines : goal.invariant-loop-lines
 invariant-loop-lines g l = Makes l.number l.initial.lines.items l.lines.items
