@@ -1,8 +1,9 @@
 use super::*;
-use gateway_setup::Event;
+use gateway_setup::{Event, SentLists};
 use hex_lines::read_hex;
 use link_ends::Octets;
 use script_words::read_number;
+use server_list::ServerList;
 use std::alloc::Global;
 use std::test::Fail;
 
@@ -20,15 +21,19 @@ fn meant(byte: u8) -> u8 {
     }
 }
 
+/// Adds the bytes of such a text.
+fn add_text(bytes: &mut Vec<u8>, text: &str) -> Result<(), Fail> {
+    for byte in text.as_bytes() {
+        bytes.push(meant(*byte))?;
+    }
+    Ok(())
+}
+
 /// The bytes of two texts, one behind the other.
 fn bytes_of(alloc: Global, front: &str, rest: &str) -> Result<Vec<u8>, Fail> {
     let mut bytes = Vec::new(alloc);
-    for byte in front.as_bytes() {
-        bytes.push(meant(*byte))?;
-    }
-    for byte in rest.as_bytes() {
-        bytes.push(meant(*byte))?;
-    }
+    add_text(&mut bytes, front)?;
+    add_text(&mut bytes, rest)?;
     Ok(bytes)
 }
 
@@ -54,12 +59,25 @@ fn word_of(why: ScriptWhy) -> &'static str {
 }
 
 /// Whether a script is refused at the line of this number for the reason with this word.
-fn is_refusal(fault: ScriptFault, number: &str, word: &str) -> bool {
+fn is_refusal(fault: ScriptFault, number: u64, word: &str) -> bool {
     match fault {
-        ScriptFault::Refused { line, why } => {
-            read_number(number.as_bytes()) == Some(line) && word_of(why) == word
-        }
+        ScriptFault::Refused { line, why } => line == number && word_of(why) == word,
         ScriptFault::NoMemory => false,
+    }
+}
+
+/// Whether a script of two texts is refused at the line of this number for the reason with this word.
+fn is_refused_as(
+    alloc: Global,
+    front: &str,
+    rest: &str,
+    number: u64,
+    word: &str,
+) -> Result<bool, Fail> {
+    let bytes = bytes_of(alloc, front, rest)?;
+    match read_script(alloc, bytes.as_slice()) {
+        Ok(_) => Ok(false),
+        Err(fault) => Ok(is_refusal(fault, number, word)),
     }
 }
 
@@ -67,11 +85,8 @@ fn is_refusal(fault: ScriptFault, number: &str, word: &str) -> bool {
 fn is_refused(alloc: Global, front: &str, row: &str) -> Result<bool, Fail> {
     let (number, row) = row.split_once(' ').ok_or("a number")?;
     let (word, rest) = row.split_once(' ').ok_or("a reason")?;
-    let bytes = bytes_of(alloc, front, rest)?;
-    match read_script(alloc, bytes.as_slice()) {
-        Ok(_) => Ok(false),
-        Err(fault) => Ok(is_refusal(fault, number, word)),
-    }
+    let number = read_number(number.as_bytes()).ok_or("a number")?;
+    is_refused_as(alloc, front, rest, number, word)
 }
 
 /// The first of these rows that isn't refused as it says, the empty text where there is none.
@@ -243,43 +258,53 @@ fn bad_chains_are_refused(rt: HostRuntime) -> Result<(), Fail> {
     Ok(())
 }
 
+const LONG: ScriptFault = ScriptFault::Refused {
+    line: 0,
+    why: ScriptWhy::Long,
+};
+
 /// The longest script has 16,777,216 bytes.
 #[test]
 fn a_longer_script_is_refused(rt: HostRuntime) -> Result<(), Fail> {
     let mut text = Vec::new(rt.alloc());
     text.resize(16_777_217, b'#')?;
-    match read_script(rt.alloc(), text.as_slice()) {
-        Ok(_) => Err(Fail::from("not refused")),
-        Err(fault) => {
-            assert!(rt; is_refusal(fault, "0", "long"));
-            Ok(())
-        }
-    }
+    let fault = read_script(rt.alloc(), text.as_slice()).err();
+    assert_eq!(rt; fault, Some(LONG));
+    Ok(())
 }
 
 // ---- lines that have bytes
 
-/// All bytes that this application has to send, None where another line than one of its bytes is among these.
-fn bytes_to_send(alloc: Global, lines: &[Line], number: u32) -> Result<Option<Octets>, Fail> {
+/// The bytes that a line gives this application to send, None where it does something else.
+fn bytes_for(line: &Line, number: u32) -> Option<&[u8]> {
+    match line {
+        Line::Bytes { app, bytes } if *app == number => Some(bytes.as_slice()),
+        _ => None,
+    }
+}
+
+/// All bytes that these lines give this application to send.
+fn bytes_to_send(alloc: Global, lines: &[Line], number: u32) -> Result<Octets, Fail> {
     let mut all = Octets::new(alloc);
     for line in lines {
-        match line {
-            Line::Bytes { app, bytes } if *app == number => all.push_all(bytes.as_slice())?,
-            _ => return Ok(None),
-        }
+        all.push_all(bytes_for(line, number).ok_or("bytes")?)?;
     }
-    Ok(Some(all))
+    Ok(all)
+}
+
+/// Whether the digits spell these bytes.
+fn are_spelled(alloc: Global, bytes: &[u8], digits: &str) -> Result<bool, Fail> {
+    match read_hex(alloc, digits.as_bytes())? {
+        Some(spelled) => Ok(bytes == spelled.as_slice()),
+        None => Ok(false),
+    }
 }
 
 /// Whether an application has to send the bytes that the digits spell, after these lines.
 fn sends(alloc: Global, number: u32, body: &str, digits: &str) -> Result<bool, Fail> {
     let script = script(alloc, HEADER, body)?;
     let all = bytes_to_send(alloc, script.lines(), number)?;
-    let spelled = read_hex(alloc, digits.as_bytes())?;
-    match (all, spelled) {
-        (Some(all), Some(spelled)) => Ok(all.as_slice() == spelled.as_slice()),
-        _ => Ok(false),
-    }
+    are_spelled(alloc, all.as_slice(), digits)
 }
 
 #[test]
@@ -365,13 +390,18 @@ fn sections_and_unit_ends_have_their_bytes(rt: HostRuntime) -> Result<(), Fail> 
 
 // ---- lines that are events
 
+/// Whether these lines are this event alone.
+fn are_event(lines: &[Line], event: Event) -> bool {
+    match lines {
+        [Line::Event(read)] => *read == event,
+        _ => false,
+    }
+}
+
 /// Whether a line is this event.
 fn is_event(alloc: Global, line: &str, event: Event) -> Result<bool, Fail> {
     let script = script(alloc, HEADER, line)?;
-    match script.lines() {
-        [Line::Event(read)] => Ok(*read == event),
-        _ => Ok(false),
-    }
+    Ok(are_event(script.lines(), event))
 }
 
 #[test]
@@ -409,18 +439,18 @@ fn sessions_step(rt: HostRuntime) -> Result<(), Fail> {
     Ok(())
 }
 
-/// Whether a script's only line lets at most so many events happen.
-fn is_budget(alloc: Global, line: &str, most: u32) -> Result<bool, Fail> {
-    let script = script(alloc, HEADER, line)?;
-    match script.lines() {
-        [Line::Settle(budget)] => Ok(*budget == most),
-        _ => Ok(false),
+/// How many events a script's only line lets happen at most.
+fn budget(lines: &[Line]) -> Option<u32> {
+    match lines {
+        [Line::Settle(budget)] => Some(*budget),
+        _ => None,
     }
 }
 
 #[test]
 fn a_budget_is_read(rt: HostRuntime) -> Result<(), Fail> {
-    assert!(rt; is_budget(rt.alloc(), "settle 1000000/# x", 1000000)?);
+    let script = script(rt.alloc(), HEADER, "settle 1000000/# x")?;
+    assert_eq!(rt; budget(script.lines()), Some(1_000_000));
     Ok(())
 }
 
@@ -429,26 +459,35 @@ fn a_budget_is_read(rt: HostRuntime) -> Result<(), Fail> {
 /// A header of each kind of line, behind a comment and an empty line.
 const WHOLE_HEADER: &str = "# \u{e9}//list 2=5 1=0/user A1 B2/row S 0 X/row S 1 Y";
 
+/// The member and the weight that stand at a place of a list.
+fn row_of(list: &ServerList, place: usize) -> Option<(u32, u16)> {
+    list.row(place).map(|row| (row.member, row.weight))
+}
+
 #[test]
 fn a_header_names_database_and_members(rt: HostRuntime) -> Result<(), Fail> {
     let script = script(rt.alloc(), HEADER, WHOLE_HEADER)?;
     let setup = script.setup();
     assert!(rt; setup.rdb.as_slice() == b"SAMPLE".as_slice());
     assert_eq!(rt; setup.cap, 2);
-    assert_eq!(rt; setup.list.row(1).map(|row| row.weight), Some(65535));
+    assert_eq!(rt; row_of(&setup.list, 1), Some((2, 65535)));
     assert!(rt; script.lines().is_empty());
     Ok(())
+}
+
+/// Whether a member sends this list, whose rows are members 2 and 1.
+fn sends_two(lists: &SentLists, member: u32) -> bool {
+    let list = lists.of(member);
+    list.number() == 0 && row_of(list, 0) == Some((2, 5)) && row_of(list, 1) == Some((1, 0))
 }
 
 #[test]
 fn each_member_sends_the_list(rt: HostRuntime) -> Result<(), Fail> {
     let script = script(rt.alloc(), HEADER, WHOLE_HEADER)?;
-    for member in [1, 2] {
-        let list = script.setup().sent_lists.of(member);
-        assert_eq!(rt; list.number(), 0);
-        assert_eq!(rt; list.row(0).map(|row| row.member), Some(2));
-        assert_eq!(rt; list.row(1).map(|row| row.weight), Some(0));
-    }
+    let sent = &script.setup().sent_lists;
+    assert!(rt; sends_two(sent, 1));
+    assert!(rt; sends_two(sent, 2));
+    assert!(rt; sent.of(3).is_empty());
     Ok(())
 }
 
@@ -458,19 +497,37 @@ fn each_member_may_send_a_list_of_its_own(rt: HostRuntime) -> Result<(), Fail> {
     let sent = &script.setup().sent_lists;
     assert!(rt; sent.of(1).is_empty());
     assert_eq!(rt; sent.of(2).number(), 4294967295);
-    assert_eq!(rt; sent.of(2).row(0).map(|row| row.weight), Some(7));
+    assert_eq!(rt; row_of(sent.of(2), 0), Some((1, 7)));
     Ok(())
+}
+
+/// Whether these are the users of that header.
+fn are_users(users: &[User]) -> bool {
+    match users {
+        [user] => {
+            user.name.as_slice() == b"A1".as_slice() && user.password.as_slice() == b"B2".as_slice()
+        }
+        _ => false,
+    }
+}
+
+/// Whether these are the rows of that header.
+fn are_rows(rows: &[Row]) -> bool {
+    match rows {
+        [first, second] => {
+            first.key == 0
+                && second.key == 1
+                && second.schema.as_slice() == b"S".as_slice()
+                && second.text.as_slice() == b"Y".as_slice()
+        }
+        _ => false,
+    }
 }
 
 #[test]
 fn users_and_rows_are_told(rt: HostRuntime) -> Result<(), Fail> {
     let script = script(rt.alloc(), HEADER, WHOLE_HEADER)?;
-    let user = script.users().first().ok_or("a user")?;
-    assert!(rt; user.name.as_slice() == b"A1".as_slice());
-    assert!(rt; user.password.as_slice() == b"B2".as_slice());
-    let row = script.rows().get(1).ok_or("a second row")?;
-    assert_eq!(rt; row.key, 1);
-    assert!(rt; row.schema.as_slice() == b"S".as_slice());
-    assert!(rt; row.text.as_slice() == b"Y".as_slice());
+    assert!(rt; are_users(script.users()));
+    assert!(rt; are_rows(script.rows()));
     Ok(())
 }
