@@ -5,9 +5,9 @@ use Rattle.script_reader.specs.Weights.{weights_read}
 use Rattle.script_reader.proofs.weights.read_weights.Given as goal
 
 -- the words that are left, added to the list so far, make what all words make
-abbrev pub invariant-loop-rest : goal.invariant-loop-rest
-invariant-loop-rest l =
+abbrev pub invariant-loop-list : goal.invariant-loop-list
+invariant-loop-list l =
     weights_read l.members.rows l.list (words_of l.rest) ≡ weights_read l.members.rows (record no_rows { number = l.number }) (words_of l.words)
 
-abbrev pub decreases-loop-rest : goal.decreases-loop-rest
-decreases-loop-rest l = length l.rest
+abbrev pub decreases-loop-list : goal.decreases-loop-list
+decreases-loop-list l = length l.rest
