@@ -110,7 +110,7 @@ impl Scanner {
             whole.push_back_reserved(Placed { at, dss });
             return Ok(());
         }
-        let body = long_body(room, bytes)?;
+        let body = long_body(room, bytes, stream.len())?;
         let dss = with_body(bytes, body);
         whole.push_back_reserved(Placed { at, dss });
         Ok(())

@@ -37,7 +37,8 @@ const CONTINUES: u16 = 0x8000;
 /// A body of so many bytes in one segment stands in the value itself.
 pub(crate) const SHORT_BODY: usize = 24;
 
-/// How many bytes of room for bodies are made at once, at least.
+/// Room for bodies is made for this many of the bytes that came, at least: for all of them where there are fewer, so that a reader
+/// that reads little keeps little.
 const BLOCK: usize = 65_536;
 
 /// What is known of a DSS from the bytes of it that have come.
@@ -253,14 +254,15 @@ pub(crate) fn short_body(alloc: Global, bytes: &[u8], stream: &[u8]) -> Octets
     Octets::short_front_of(alloc, &stream[HEADER..], bytes.len() - HEADER)
 }
 
-/// What the segments hold that these bytes are, all of them, put together in the room.
+/// What the segments hold that these bytes are, all of them, put together in the room. So many bytes of the stream have come from
+/// their first on.
 #[inline(never)]
-pub(crate) fn long_body(room: &mut BytesMut, bytes: &[u8]) -> Result<Octets, NoMemory>
+pub(crate) fn long_body(room: &mut BytesMut, bytes: &[u8], come: usize) -> Result<Octets, NoMemory>
     requires first { 6 ≤ segment_size bytes.now }
     requires whole { segments_extent (length bytes.now) 0 bytes.now ≡ Extent.Ends (length bytes.now) }
     ensures { IfOk result (λ body. body ≡ body_of (length bytes.now) 6 bytes.now) }
 {
-    empty_for(room, bytes.len())?;
+    empty_for(room, bytes.len(), come)?;
     let mut rest = bytes;
     let mut header = HEADER;
     loop {
@@ -275,13 +277,13 @@ pub(crate) fn long_body(room: &mut BytesMut, bytes: &[u8]) -> Result<Octets, NoM
     }
 }
 
-/// Empties the room, and sees that so many bytes fit in it.
-fn empty_for(room: &mut BytesMut, len: usize) -> Result<(), NoMemory>
+/// Empties the room, and sees that so many bytes fit in it, and the bodies of all bytes that have come where that isn't too many.
+fn empty_for(room: &mut BytesMut, len: usize, come: usize) -> Result<(), NoMemory>
     ensures { OnOk result (room.new.items ≡ []) }
 {
     room.clear();
     if room.capacity() < len {
-        room.reserve(len.max(BLOCK))?;
+        room.reserve(len.max(come.min(BLOCK)))?;
     }
     Ok(())
 }

@@ -3,3 +3,4 @@ pub mod Pieces
 pub mod Handshakes
 pub mod Calls
 pub mod Whole
+pub mod Leaving

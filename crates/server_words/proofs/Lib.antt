@@ -1,0 +1,4 @@
+pub mod Taken
+pub mod Found
+pub mod Plain
+pub mod Each

@@ -1,0 +1,4 @@
+pub mod Field
+pub mod Command
+pub mod Serve
+pub mod Member
