@@ -14,4 +14,5 @@ pub mod Dedicated
 pub mod Report
 pub mod Play
 pub mod Trace
+pub mod Make
 pub mod Users

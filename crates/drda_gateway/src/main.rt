@@ -4,6 +4,7 @@
 mod answer;
 mod command;
 mod laws;
+mod make;
 mod play;
 mod report;
 mod script;
@@ -14,6 +15,7 @@ mod trace;
 mod world;
 
 use link_ends::NoMemory;
+use make::make;
 use play::play;
 use program_ends::{StdSink, StdSource};
 use std::process::ExitCode;
@@ -50,6 +52,7 @@ fn main(rt: HostRuntime) -> ExitCode {
     let mut sink = StdSink::new(io::writer(&rt));
     let status = match words.first() {
         Some(word) if word.as_str() == "trace" => trace(rt.alloc(), &words, &mut source, &mut sink),
+        Some(word) if word.as_str() == "make" => make(rt.alloc(), &words, &mut sink),
         _ => play(rt.alloc(), &words, &mut source, &mut sink),
     };
     ExitCode::from(status)

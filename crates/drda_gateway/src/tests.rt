@@ -1,3 +1,4 @@
+use crate::make::make;
 use crate::play::play;
 use crate::report::report;
 use crate::script::Line;
@@ -214,5 +215,37 @@ fn a_chain_past_the_limit_ends_its_session(rt: HostRuntime) -> Result<(), Fail> 
     let limit =
         "app 1 sent 0010D0020007000A1233000611490008\napp 1 ended limit request\nlog error 1 limit\nlog answer 1\ncount commits 0 dials 0 reuses 0 losses 0\n";
     assert!(rt; told.as_slice() == limit.as_bytes());
+    Ok(())
+}
+
+/// Whether `make` with the words of a line answers this status and writes this text, where these calls of its sink fail.
+fn makes(
+    alloc: Global,
+    line: &str,
+    fails: &[u32],
+    status: u8,
+    written: &str,
+) -> Result<bool, NoMemory> {
+    let mut words = Vec::new(alloc);
+    for word in line.split(' ') {
+        words.push(String::from_str(alloc, word)?)?;
+    }
+    let mut sink = MemSink::new(alloc, 1_048_576, Marks::of(alloc, fails)?)?;
+    let answer = make(alloc, &words, &mut sink);
+    Ok(answer == status && sink.written() == written.as_bytes())
+}
+
+#[test]
+fn makes_by_causes(rt: HostRuntime) -> Result<(), Fail> {
+    let alloc = rt.alloc();
+    let usage = "usage: drda_gateway make SEED APPS UNITS\n";
+    let script =
+        "rdb SAMPLE\ncap 2\nmember 1 1\nmember 2 1\nuser U1 P\nstart 1 U1 P\nsettle 100000\n\
+sql 1 INSERT INTO T VALUES (1, 'V19564')\nsettle 100000\ncommit 1\nsettle 100000\nend 1\n";
+    assert!(rt; makes(alloc, "make 7 1 1", &[], 0, script)?);
+    assert!(rt; makes(alloc, "make 7 0 1", &[], 1, usage)?);
+    assert!(rt; makes(alloc, "make 07 1 1", &[], 1, usage)?);
+    assert!(rt; makes(alloc, "make 7 1 101", &[0], 1, "")?);
+    assert!(rt; makes(alloc, "make 7 1 1", &[0], 4, "")?);
     Ok(())
 }

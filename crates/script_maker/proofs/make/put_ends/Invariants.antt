@@ -1,0 +1,7 @@
+use Rattle.std.proofs.Common.{◌≡◌, ◌++◌}
+use Rattle.script_maker.specs.Lines.{end_line}
+use Rattle.script_maker.specs.Made.{each_app}
+use Rattle.script_maker.proofs.make.put_ends.Given as goal
+
+abbrev pub invariant-loop-place : goal.invariant-loop-place
+invariant-loop-place l = l.out ≡ l.fn.out ++ each_app end_line l.place

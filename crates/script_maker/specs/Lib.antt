@@ -1,0 +1,4 @@
+pub mod Draw
+pub mod Lines
+pub mod Made
+pub mod Asked
