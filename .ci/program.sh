@@ -165,5 +165,39 @@ compare 'a folder as a capture' 3
 status=$?
 compare 'a trace to a full standard output' 4
 
+# Scripts that are made: a small one, the largest twice, words, and an output that fails.
+usage='usage: drda_gateway make SEED APPS UNITS'
+: >"$folder/script"
+made='rdb SAMPLE
+cap 2
+member 1 1
+member 2 1
+user U1 P
+start 1 U1 P
+settle 100000
+sql 1 INSERT INTO T VALUES (1, '"'V19564'"')
+settle 100000
+commit 1
+settle 100000
+end 1'
+check 'a small script' 0 "$made" make 7 1 1
+"$program" make 2147483647 64 100 >"$folder/wanted"
+"$program" make 2147483647 64 100 >"$folder/output" 2>"$folder/errors"
+status=$?
+compare 'the largest script twice' 0
+[ "$(grep -c '^commit ' "$folder/wanted")" = 6400 ]
+status=$?
+compare 'the commits of the largest script' 0
+check 'a seed too large' 1 "$usage" make 2147483648 1 1
+check 'a seed with a leading zero' 1 "$usage" make 07 1 1
+check 'no application' 1 "$usage" make 7 0 1
+check 'too many units' 1 "$usage" make 7 1 101
+check 'a word behind the numbers' 1 "$usage" make 7 1 1 1
+: >"$folder/wanted"
+: >"$folder/output"
+"$program" make 7 1 1 >/dev/full 2>"$folder/errors"
+status=$?
+compare 'a made script to a full standard output' 4
+
 echo "program: $passed passed, $failed failed"
 [ "$failed" -eq 0 ]
