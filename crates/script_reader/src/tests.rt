@@ -117,17 +117,11 @@ const BAD_FIRST_LINES: &str = "\
 3 field rdb A/cap 1/member 1 65536
 3 order rdb A/cap 1/list 1=1";
 
-#[test]
-fn bad_first_lines_are_refused(rt: HostRuntime) -> Result<(), Fail> {
-    assert_eq!(rt; first_read(rt.alloc(), "", BAD_FIRST_LINES)?, "");
-    assert!(rt; is_refused(rt.alloc(), "", "1 order ")?);
-    Ok(())
-}
-
 /// What begins the scripts that follow.
 const ONE_MEMBER: &str = "rdb A/cap 1/member 1 0/";
 
-const BAD_LISTS: &str = "\
+/// Scripts with bad lists, users and rows.
+const BAD_HEADERS: &str = "\
 4 field list 2=1
 4 field list 1
 4 field list 1=
@@ -146,15 +140,7 @@ const BAD_LISTS: &str = "\
 5 order list2 1 1 1=1/list 1=1
 5 field list2 1 1 1=1/list2 1 2 1=1
 5 order user A B/list 1=1
-5 order list 1=1/member 2 1";
-
-#[test]
-fn bad_lists_are_refused(rt: HostRuntime) -> Result<(), Fail> {
-    assert_eq!(rt; first_read(rt.alloc(), ONE_MEMBER, BAD_LISTS)?, "");
-    Ok(())
-}
-
-const BAD_USERS_AND_ROWS: &str = "\
+5 order list 1=1/member 2 1
 5 field user A B/user A C
 4 field user ABCDEFGHI B
 4 field user A b
@@ -167,18 +153,18 @@ const BAD_USERS_AND_ROWS: &str = "\
 4 field row a 1 B
 4 field row A 1 b
 5 order settle 1/row A 1 B
-5 order settle 1/user A B
-4 field settle 1000001
-4 field settle 0
-4 field settle 01";
+5 order settle 1/user A B";
 
 #[test]
-fn bad_users_and_rows_are_refused(rt: HostRuntime) -> Result<(), Fail> {
-    assert_eq!(rt; first_read(rt.alloc(), ONE_MEMBER, BAD_USERS_AND_ROWS)?, "");
+fn bad_headers_are_refused(rt: HostRuntime) -> Result<(), Fail> {
+    assert_eq!(rt; first_read(rt.alloc(), "", BAD_FIRST_LINES)?, "");
+    assert!(rt; is_refused(rt.alloc(), "", "1 order ")?);
+    assert_eq!(rt; first_read(rt.alloc(), ONE_MEMBER, BAD_HEADERS)?, "");
     Ok(())
 }
 
-const BAD_COMMANDS: &str = "\
+/// Scripts with bad commands and events, and with chains that go on where they can't.
+const BAD_BODIES: &str = "\
 4 word App 1
 4 word app
 4 field app  1
@@ -210,15 +196,7 @@ const BAD_COMMANDS: &str = "\
 4 word close 1 1 1
 4 word commit 1_
 4 field commit 65
-4 word rollback";
-
-#[test]
-fn bad_commands_are_refused(rt: HostRuntime) -> Result<(), Fail> {
-    assert_eq!(rt; first_read(rt.alloc(), ONE_MEMBER, BAD_COMMANDS)?, "");
-    Ok(())
-}
-
-const BAD_EVENTS: &str = "\
+4 word rollback
 4 field take 1 0
 4 field take 1 65537
 4 field send 0 1
@@ -233,16 +211,10 @@ const BAD_EVENTS: &str = "\
 4 field cut x
 4 word give 1 1
 4 field down 2
-4 field up 0";
-
-#[test]
-fn bad_events_are_refused(rt: HostRuntime) -> Result<(), Fail> {
-    assert_eq!(rt; first_read(rt.alloc(), ONE_MEMBER, BAD_EVENTS)?, "");
-    Ok(())
-}
-
-/// Scripts with chains that go on where they can't.
-const BAD_CHAINS: &str = "\
+4 field up 0
+4 field settle 1000001
+4 field settle 0
+4 field settle 01
 5 order sql+ 1 A
 5 order sql+ 1 A/app 1
 5 order sql+ 1 A/app 1 0
@@ -253,8 +225,8 @@ const BAD_CHAINS: &str = "\
 9 order commit+ 1/settle 1/commit 1/sql+ 64 A/# x";
 
 #[test]
-fn bad_chains_are_refused(rt: HostRuntime) -> Result<(), Fail> {
-    assert_eq!(rt; first_read(rt.alloc(), ONE_MEMBER, BAD_CHAINS)?, "");
+fn bad_bodies_are_refused(rt: HostRuntime) -> Result<(), Fail> {
+    assert_eq!(rt; first_read(rt.alloc(), ONE_MEMBER, BAD_BODIES)?, "");
     Ok(())
 }
 
@@ -307,12 +279,6 @@ fn sends(alloc: Global, number: u32, body: &str, digits: &str) -> Result<bool, F
     are_spelled(alloc, all.as_slice(), digits)
 }
 
-#[test]
-fn bytes_are_spelled_in_digits(rt: HostRuntime) -> Result<(), Fail> {
-    assert!(rt; sends(rt.alloc(), 64, "app 64 d0F1/app 64/app 64 0a", "D0F10A")?);
-    Ok(())
-}
-
 /// Both chains of access.
 const START: &str =
     "0022D0410001001C1041001814041403000724070007240F000714400007147400050026D00100020020106D\
@@ -320,12 +286,6 @@ const START: &str =
      000911A0C1D3C9C3C5000A11A1E2C5C3D9C5E300162110E2C1D4D7D3C54040404040404040404040400049D0\
      010002004320010006210F2407000C112EE2C3D9F0F1F0F1F0000D002FD8E3C4E2D8D3F3F7F000162110E2C1\
      D4D7D3C5404040404040404040404040000A00350006119C0025";
-
-#[test]
-fn access_has_its_bytes(rt: HostRuntime) -> Result<(), Fail> {
-    assert!(rt; sends(rt.alloc(), 1, "start 1 ALICE SECRET", START)?);
-    Ok(())
-}
 
 /// One statement alone in its chain.
 const STATEMENT: &str =
@@ -340,21 +300,6 @@ const CHAIN: &str = "000AD051000100042014001CD043000100162414000000000CE2C5E340D
      004ED00100030048200C00442113E2C1D4D7D3C5404040404040404040404040D5E4D3D3C9C4404040404040\
      404040404040E2C3D9C9D7E340404040404040404040404001010101010101010007";
 
-#[test]
-fn statements_have_their_bytes(rt: HostRuntime) -> Result<(), Fail> {
-    assert!(rt;
-        sends(
-            rt.alloc(),
-            1,
-            "sql 1 INSERT INTO T VALUES (1, 'A')",
-            STATEMENT
-        )?
-    );
-    let body = "set+ 2 SET R1 = 'X'/prepare+ 2 7 SELECT K, V FROM T/open 2 7";
-    assert!(rt; sends(rt.alloc(), 2, body, CHAIN)?);
-    Ok(())
-}
-
 /// PRPSQLSTT with a held cursor, and PRPSQLSTT of a statement that is the word `hold`.
 const HELD: &str =
     "004ED05100010048200D00442113E2C1D4D7D3C5404040404040404040404040D5E4D3D3C9C4404040404040\
@@ -365,13 +310,6 @@ const HELD: &str =
      404040404040E2C3D9C9D7E3404040404040404040404040010101010101010100000014D0030001000E2414\
      000000000488969384FF";
 
-#[test]
-fn held_cursors_are_asked_for(rt: HostRuntime) -> Result<(), Fail> {
-    let body = "prepare 3 65535 hold SELECT K, V FROM T/prepare 3 0 hold";
-    assert!(rt; sends(rt.alloc(), 3, body, HELD)?);
-    Ok(())
-}
-
 /// A chain of CNTQRY, CLSQRY and RDBRLLBCK, and RDBCMM alone.
 const UNIT_ENDS: &str =
     "004ED04100010048200600442113E2C1D4D7D3C5404040404040404040404040D5E4D3D3C9C4404040404040\
@@ -381,10 +319,29 @@ const UNIT_ENDS: &str =
      000AD00100030004200F\
      000AD00100010004200E";
 
+/// Lines, the application that they give bytes, and these bytes in digits.
+const SENT: [(&str, u32, &str); 6] = [
+    ("app 64 d0F1/app 64/app 64 0a", 64, "D0F10A"),
+    ("start 1 ALICE SECRET", 1, START),
+    ("sql 1 INSERT INTO T VALUES (1, 'A')", 1, STATEMENT),
+    (
+        "set+ 2 SET R1 = 'X'/prepare+ 2 7 SELECT K, V FROM T/open 2 7",
+        2,
+        CHAIN,
+    ),
+    (
+        "prepare 3 65535 hold SELECT K, V FROM T/prepare 3 0 hold",
+        3,
+        HELD,
+    ),
+    ("fetch+ 2 0/close+ 2 0/rollback 2/commit 2", 2, UNIT_ENDS),
+];
+
 #[test]
-fn sections_and_unit_ends_have_their_bytes(rt: HostRuntime) -> Result<(), Fail> {
-    let body = "fetch+ 2 0/close+ 2 0/rollback 2/commit 2";
-    assert!(rt; sends(rt.alloc(), 2, body, UNIT_ENDS)?);
+fn lines_have_their_bytes(rt: HostRuntime) -> Result<(), Fail> {
+    for (body, number, digits) in SENT {
+        assert!(rt; sends(rt.alloc(), number, body, digits)?, "{body}");
+    }
     Ok(())
 }
 
@@ -404,41 +361,6 @@ fn is_event(alloc: Global, line: &str, event: Event) -> Result<bool, Fail> {
     Ok(are_event(script.lines(), event))
 }
 
-#[test]
-fn bytes_are_moved(rt: HostRuntime) -> Result<(), Fail> {
-    let alloc = rt.alloc();
-    assert!(rt; is_event(alloc, "take 1 65536", Event::Take { app: 1, n: 65536 })?);
-    assert!(rt; is_event(alloc, "send 2 1", Event::Send { app: 2, n: 1 })?);
-    assert!(rt; is_event(alloc, "back 64 7", Event::Back { app: 64, n: 7 })?);
-    assert!(rt; is_event(alloc, "say 3 4/", Event::Say { app: 3, n: 4 })?);
-    Ok(())
-}
-
-#[test]
-fn transports_are_named(rt: HostRuntime) -> Result<(), Fail> {
-    let alloc = rt.alloc();
-    let last = Event::Act {
-        transport: 18446744073709551615,
-        n: 2,
-    };
-    assert!(rt; is_event(alloc, "act 18446744073709551615 2", last)?);
-    assert!(rt; is_event(alloc, "drop 0", Event::Drop { transport: 0 })?);
-    assert!(rt; is_event(alloc, "down 2", Event::Down { member: 2 })?);
-    assert!(rt; is_event(alloc, "up 1", Event::Up { member: 1 })?);
-    Ok(())
-}
-
-#[test]
-fn sessions_step(rt: HostRuntime) -> Result<(), Fail> {
-    let alloc = rt.alloc();
-    assert!(rt; is_event(alloc, "end 1", Event::End { app: 1 })?);
-    assert!(rt; is_event(alloc, "lend 1", Event::Lend { app: 1 })?);
-    assert!(rt; is_event(alloc, "dial 1", Event::Dial { app: 1 })?);
-    assert!(rt; is_event(alloc, "cut 1", Event::Cut { app: 1 })?);
-    assert!(rt; is_event(alloc, "give 1", Event::Give { app: 1 })?);
-    Ok(())
-}
-
 /// How many events a script's only line lets happen at most.
 fn budget(lines: &[Line]) -> Option<u32> {
     match lines {
@@ -448,7 +370,26 @@ fn budget(lines: &[Line]) -> Option<u32> {
 }
 
 #[test]
-fn a_budget_is_read(rt: HostRuntime) -> Result<(), Fail> {
+fn lines_are_events(rt: HostRuntime) -> Result<(), Fail> {
+    let transport = 18446744073709551615;
+    let rows = [
+        ("take 1 65536", Event::Take { app: 1, n: 65536 }),
+        ("send 2 1", Event::Send { app: 2, n: 1 }),
+        ("back 64 7", Event::Back { app: 64, n: 7 }),
+        ("say 3 4/", Event::Say { app: 3, n: 4 }),
+        ("act 18446744073709551615 2", Event::Act { transport, n: 2 }),
+        ("drop 0", Event::Drop { transport: 0 }),
+        ("down 2", Event::Down { member: 2 }),
+        ("up 1", Event::Up { member: 1 }),
+        ("end 1", Event::End { app: 1 }),
+        ("lend 1", Event::Lend { app: 1 }),
+        ("dial 1", Event::Dial { app: 1 }),
+        ("cut 1", Event::Cut { app: 1 }),
+        ("give 1", Event::Give { app: 1 }),
+    ];
+    for (line, event) in rows {
+        assert!(rt; is_event(rt.alloc(), line, event)?, "{line}");
+    }
     let script = script(rt.alloc(), HEADER, "settle 1000000/# x")?;
     assert_eq!(rt; budget(script.lines()), Some(1_000_000));
     Ok(())
@@ -464,31 +405,10 @@ fn row_of(list: &ServerList, place: usize) -> Option<(u32, u16)> {
     list.row(place).map(|row| (row.member, row.weight))
 }
 
-#[test]
-fn a_header_names_database_and_members(rt: HostRuntime) -> Result<(), Fail> {
-    let script = script(rt.alloc(), HEADER, WHOLE_HEADER)?;
-    let setup = script.setup();
-    assert!(rt; setup.rdb.as_slice() == b"SAMPLE".as_slice());
-    assert_eq!(rt; setup.cap, 2);
-    assert_eq!(rt; row_of(&setup.list, 1), Some((2, 65535)));
-    assert!(rt; script.lines().is_empty());
-    Ok(())
-}
-
 /// Whether a member sends this list, whose rows are members 2 and 1.
 fn sends_two(lists: &SentLists, member: u32) -> bool {
     let list = lists.of(member);
     list.number() == 0 && row_of(list, 0) == Some((2, 5)) && row_of(list, 1) == Some((1, 0))
-}
-
-#[test]
-fn each_member_sends_the_list(rt: HostRuntime) -> Result<(), Fail> {
-    let script = script(rt.alloc(), HEADER, WHOLE_HEADER)?;
-    let sent = &script.setup().sent_lists;
-    assert!(rt; sends_two(sent, 1));
-    assert!(rt; sends_two(sent, 2));
-    assert!(rt; sent.of(3).is_empty());
-    Ok(())
 }
 
 #[test]
@@ -525,9 +445,17 @@ fn are_rows(rows: &[Row]) -> bool {
 }
 
 #[test]
-fn users_and_rows_are_told(rt: HostRuntime) -> Result<(), Fail> {
+fn a_header_is_told(rt: HostRuntime) -> Result<(), Fail> {
     let script = script(rt.alloc(), HEADER, WHOLE_HEADER)?;
+    let setup = script.setup();
+    assert!(rt; setup.rdb.as_slice() == b"SAMPLE".as_slice());
+    assert_eq!(rt; setup.cap, 2);
+    assert_eq!(rt; row_of(&setup.list, 1), Some((2, 65535)));
+    assert!(rt; sends_two(&setup.sent_lists, 1));
+    assert!(rt; sends_two(&setup.sent_lists, 2));
+    assert!(rt; setup.sent_lists.of(3).is_empty());
     assert!(rt; are_users(script.users()));
     assert!(rt; are_rows(script.rows()));
+    assert!(rt; script.lines().is_empty());
     Ok(())
 }
