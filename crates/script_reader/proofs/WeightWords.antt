@@ -77,3 +77,16 @@ module _ (members : List ServerRow) (list : Listing) (rest : List ℕ) where
         | inl e ↦ first_bad (words_of rest) [] (words_of-last rest e) bad
         | inr ne ↦ first_bad (words_of rest) (words_of (after_first is_space rest)) (words_of-more rest ne) bad
       ]
+
+-- the same of a word that was cut off
+module _ (members : List ServerRow) (list : Listing) (rest word : List ℕ) (cut : word ≡ before_first is_space rest) where
+  pub reads_on : (after : List ℕ) (more : Listing) → after ≡ after_first is_space rest → length word ≢ length rest →
+      weight_added members list word ≡ Some more → weights_read members list (words_of rest) ≡ weights_read members more (words_of after)
+  reads_on after more left ne added = rw left (weights_read-more members list rest more (rw cut at ne) (rw cut at added))
+
+  pub reads_last : (more : Listing) → length word ≡ length rest → weight_added members list word ≡ Some more →
+      weights_read members list (words_of rest) ≡ Some more
+  reads_last more e added = weights_read-last members list rest more (rw cut at e) (rw cut at added)
+
+  pub reads_bad : weight_added members list word ≡ None → weights_read members list (words_of rest) ≡ None
+  reads_bad bad = weights_read-bad members list rest (rw cut at bad)
