@@ -17,6 +17,7 @@ use Rattle.hex_lines.specs.Lines.{lines_of, most_bytes}
 -- the lines of the rest, the first of which has this number, added to the draft, say what all lines say
 pub record ReadSoFar (number : ℕ) (draft : DraftText) (rest text : List ℕ) : Type 0 where
   pub same : lines_added number draft (lines_of rest) ≡ lines_added 1 start (lines_of text)
+  pub first : 1 ≤ number
   pub counted : number + length rest ≤ length text + 1
   pub short : length text ≤ most_bytes
 
@@ -73,6 +74,7 @@ read_more number draft next rest line after text so_far e shorter added =
     record {
       same = sym (lines_added-ok number draft next rest line after e added)
           ∙ so_far.same;
+      first = omega arith;
       counted = omega (arith, so_far.counted, shorter);
       short = so_far.short;
     }

@@ -8,7 +8,7 @@ returns-then-text-gt-MOST_BYTES c = script_of-long c.args.text.now c.if-text-gt-
 pub add_line-requires : goal.add_line-requires
 add_line-requires c =
     let short = line_short c.loop-rest.rest.now c.split_line.result.0.now _ c.split_line.ensures.lines in
-    omega (arith, short, c.loop-rest.invariant.counted, c.loop-rest.invariant.short)
+    omega (arith, short, c.loop-rest.invariant.first, c.loop-rest.invariant.counted, c.loop-rest.invariant.short)
 
 pub returns-in-Err : goal.returns-in-Err
 returns-in-Err c =
