@@ -1,5 +1,5 @@
 -- A set of names beside a list of what has them.
-use Rattle.std.proofs.Common.{◌≡◌, ℕ, ◌<◌, ◌^◌, Bool, true, false, List, [], ◌∷◌, ◌++◌, Ordering, refl, ap, sym, ◌∙◌, drop, Decides, ◌&&◌, ◌==◌, arith}
+use Rattle.std.proofs.Common.{◌≡◌, ℕ, ◌<◌, ◌^◌, Bool, true, false, List, [], ◌∷◌, ◌++◌, Ordering, refl, ap, sym, ◌∙◌, drop, Decides, ◌&&◌, ◌==◌}
 use Rattle.std.specs.Prelude.{◌||◌, Vec}
 use Rattle.std.specs.List.{list_any}
 use Rattle.std.specs.Str.{bytes_eq}
@@ -12,7 +12,7 @@ use Rattle.std.proofs.lemmas.Bool.Decides.{same_from_decides, Decides-and, Decid
 use Rattle.std.proofs.lemmas.Map.Text.{is_eq-slice_cmp}
 use Rattle.std.proofs.lemmas.Slice.Eq.{bytes_eq-Decides}
 use Rattle.std.proofs.lemmas.List.Recursion.{or_push}
-use Rattle.byteorder.specs.Endian.{big_bytes, big_number}
+use Rattle.byteorder.specs.Endian.{big_number}
 use Rattle.byteorder.specs.Numbers.{big_number-reads_back}
 use Rattle.script_reader.specs.declared.script.User.{User}
 use Rattle.script_reader.specs.declared.script.Row.{Row}

@@ -1,5 +1,5 @@
 -- What the lines of a body add. This grammar is this project's choice.
-use Rattle.std.specs.Prelude.{ℕ, ◌==◌, ◌&&◌, Bool, if◌then◌else◌, List, [], Option, Some, None, option_map, option_and_then, Result, Ok, Err, ok_or}
+use Rattle.std.specs.Prelude.{ℕ, ◌==◌, ◌&&◌, Bool, if◌then◌else◌, List, [], Option, Some, option_map, option_and_then, Result, Ok, Err, ok_or}
 use Rattle.hex_lines.specs.Hex.{bytes_of_hex}
 use Rattle.server_list.specs.declared.list.ServerRow.{ServerRow}
 use Rattle.gateway_setup.specs.declared.event.Event.{Event}

@@ -1,5 +1,5 @@
 -- The commands that a line may be, or None where a field isn't as said. This grammar is this project's choice.
-use Rattle.std.specs.Prelude.{ℕ, Bool, if◌then◌else◌, List, drop, take, Option, Some, None, option_map, codes}
+use Rattle.std.specs.Prelude.{ℕ, Bool, if◌then◌else◌, List, drop, take, Option, Some, option_map, codes}
 use Rattle.std.specs.Str.{bytes_eq}
 use Rattle.ddm_codepoints.specs.CodePoint.{excsqlimm, excsqlset, opnqry, cntqry, clsqry, rdbcmm, rdbrllbck}
 use Rattle.unit_segments.specs.declared.command.Command.{Command}

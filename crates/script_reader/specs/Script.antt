@@ -7,7 +7,6 @@ use Rattle.script_words.specs.declared.keyword.Keyword.{Keyword}
 use Rattle.script_words.specs.declared.keyword.Keyword.TheVariants as keyword
 use Rattle.script_reader.specs.declared.script.ScriptWhy.{ScriptWhy}
 use Rattle.script_reader.specs.declared.script.ScriptWhy.TheVariants.{Word, Order, Field, Long}
-use Rattle.script_words.specs.declared.stage.Stage.{Stage}
 use Rattle.script_words.specs.Field.{is_printable}
 use Rattle.script_words.specs.Words.{word, word_count}
 use Rattle.script_words.specs.Keyword.{keyword_of, fits_count}

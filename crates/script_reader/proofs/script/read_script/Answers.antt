@@ -1,4 +1,4 @@
-use Rattle.std.proofs.Common.{◌≡◌, ◌≤◌, length, arith, rules}
+use Rattle.std.proofs.Common.{◌≡◌, length, arith, rules}
 use Rattle.script_reader.proofs.Lines.{line_short, script_of-long, read_more, read_refused, read_whole}
 use Rattle.script_reader.proofs.script.read_script.Goals as goal
 

@@ -1,4 +1,4 @@
-use Rattle.std.proofs.Common.{◌≡◌, ◌≢◌, ◌∙◌, sym, length, arith}
+use Rattle.std.proofs.Common.{◌∙◌, sym, arith}
 use Rattle.script_reader.proofs.WeightWords.{reads_on, reads_last, reads_bad}
 use Rattle.script_reader.proofs.weights.read_weights.Goals as goal
 
