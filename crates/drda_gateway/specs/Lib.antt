@@ -15,3 +15,4 @@ pub mod Report
 pub mod Play
 pub mod Trace
 pub mod Users
+pub mod Member

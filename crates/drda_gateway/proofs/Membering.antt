@@ -1,0 +1,100 @@
+-- What the workers of a member made of their doors, put together.
+use Rattle.std.proofs.Common.{◌≡◌, ◌∙◌, ap, sym, refl, subst, ℕ, suc, ◌+◌, ◌<◌, ◌≤◌, min, Bool, true, false, List, [], ◌∷◌, length, map, take, get_or, ◌||◌, cond, inl, inr, ⊎_elim, ◌⊎◌, arith}
+use Rattle.std.specs.Prelude.{slice_index_or}
+use Rattle.std.specs.List.{All, sum_by, list_any}
+use Rattle.std.proofs.lemmas.Bool.{or_cases}
+use Rattle.std.proofs.lemmas.List.{take_more, take_all}
+use Rattle.std.proofs.lemmas.List.Elements.{All-nil, All-cons, All-head, All-tail}
+use Rattle.std.proofs.lemmas.List.Sums.{sum_by-cons, sum_by_push}
+use Rattle.link_ends.specs.Counts.{greatest, one_more, Rose}
+use Rattle.link_ends.specs.Doors.{DoorState}
+use Rattle.member_server.specs.declared.workers.Worked.{Worked}
+use Rattle.member_server.specs.Doors.{Work, AreWorks, HasWorked}
+use Rattle.drda_gateway.specs.Member.{WereServed, DoorFailed, FaultsRose}
+
+-- ---- sums of what was counted, up to the greatest value
+
+-- the sum of one element more
+pub sum_more : {X : Type 0} (f : X → ℕ) (xs : List X) (i sum more : ℕ) (x : X) → i < length xs → x ≡ get_or xs i x →
+    sum ≡ min (sum_by f (take i xs)) greatest → more ≡ min (sum + f x) greatest → more ≡ min (sum_by f (take (i + 1) xs)) greatest
+sum_more f xs i sum more x within is before after =
+    let front : sum_by f (take (i + 1) xs) ≡ sum_by f (take i xs) + f x =
+    ap (λ ys. sum_by f ys) (take_more xs i x within) ∙ sum_by_push f (take i xs) (get_or xs i x) ∙ ap (λ y. sum_by f (take i xs) + f y) (sym is) in
+    omega (arith, front, before, after)
+
+pub sum_whole : {X : Type 0} (f : X → ℕ) (xs : List X) (i sum : ℕ) → length xs ≤ i → sum ≡ min (sum_by f (take i xs)) greatest →
+    sum ≡ min (sum_by f xs) greatest
+sum_whole f xs i sum past is = is ∙ ap (λ ys. min (sum_by f ys) greatest) (take_all i xs past)
+
+-- ---- doors and what their workers tell
+
+module _ {D B : Type 0} (P : B → Type 0) (state : D → DoorState B) where
+  -- what each worker tells is so
+  abbrev pub AreSo : List D → List (Worked D) → Type 0
+  AreSo doors worked =
+      (i : ℕ) (door : D) (one : Worked D) → i < length doors →
+      HasWorked P (state (slice_index_or doors i door)) (state (slice_index_or worked i one).door) (slice_index_or worked i one).sessions
+      (slice_index_or worked i one).failed
+
+  pub record Pairs (doors : List D) (worked : List (Worked D)) : Type 0 where
+    pub works : List (Work B)
+    pub are : AreWorks P (map state doors) (map (λ (one : Worked D). state one.door) worked) works
+    pub sum : sum_by (λ (work : Work B). work.sessions) works ≡ sum_by (λ (one : Worked D). one.sessions) worked
+    pub fails : list_any (λ (work : Work B). work.failed) works ≡ list_any (λ (one : Worked D). one.failed) worked
+
+  pub pairs : (doors : List D) (worked : List (Worked D)) → length worked ≡ length doors → AreSo doors worked → Pairs doors worked
+  pairs [] [] same so =
+      record {
+        works = [];
+        are = record { old = refl; new = refl; each = All-nil (λ (work : Work B). HasWorked P work.before work.now work.sessions work.failed) };
+        sum = refl;
+        fails = refl;
+      }
+  pairs [] (one ∷ worked) same so = absurd (omega (arith, same))
+  pairs (door ∷ doors) [] same so = absurd (omega (arith, same))
+  pairs (door ∷ doors) (one ∷ worked) same so =
+      let rest : Pairs doors worked = pairs doors worked (omega (arith, same)) (λ i d o within. so (suc i) d o (omega (arith, within))) in
+      let first : HasWorked P (state door) (state one.door) one.sessions one.failed = so 0 door one (omega arith) in
+      let work : Work B = record { before = state door; now = state one.door; sessions = one.sessions; failed = one.failed } in
+      record {
+        works = work ∷ rest.works;
+        are =
+            record {
+              old = ap (λ (ds : List (DoorState B)). state door ∷ ds) rest.are.old;
+              new = ap (λ (ds : List (DoorState B)). state one.door ∷ ds) rest.are.new;
+              each =
+                  All-cons (λ (w : Work B). HasWorked P w.before w.now w.sessions w.failed) work rest.works first
+                  rest.are.each;
+            };
+        sum =
+            sum_by-cons (λ (w : Work B). w.sessions) work rest.works ∙ ap (λ n. one.sessions + n) rest.sum
+            ∙ sym (sum_by-cons (λ (o : Worked D). o.sessions) one worked);
+        fails = ap (λ b. one.failed || b) rest.fails;
+      }
+
+-- ---- a count of faults that rose
+
+rose : (before now : ℕ) (failed : Bool) → now ≡ cond failed (one_more before) before → failed ≡ true → Rose before now
+rose before now failed is fails =
+    let risen : now ≡ one_more before = is ∙ ap (λ b. cond b (one_more before) before) fails in
+    record { reached = omega (arith, risen) }
+
+rises : {B : Type 0} (P : B → Type 0) (works : List (Work B)) →
+    All (λ (work : Work B). HasWorked P work.before work.now work.sessions work.failed) works →
+    list_any (λ (work : Work B). work.failed) works ≡ true →
+    FaultsRose (map (λ (work : Work B). work.before) works) (map (λ (work : Work B). work.now) works)
+rises P [] each some = absurd (cc)
+rises {B} P (work ∷ works) each some =
+    let So : Work B → Type 0 = λ (w : Work B). HasWorked P w.before w.now w.sessions w.failed in
+    ⊎_elim (λ failed. inl (rose work.before.faults work.now.faults work.failed (All-head So work works each).faults failed))
+    (λ later. inr (rises P works (All-tail So work works each) later)) (or_cases work.failed (list_any (λ (w : Work B). w.failed) works) some)
+
+-- where a call of a door failed, its count of faults rose
+pub fault_rose : {B : Type 0} (P : B → Type 0) (doors doors_now : List (DoorState B)) → DoorFailed P doors doors_now → FaultsRose doors doors_now
+fault_rose {B} P doors doors_now failed =
+    let are = failed.served.are in
+    let works = failed.served.works in
+    let risen = rises P works are.each failed.served.fails in
+    let first : FaultsRose doors (map (λ (work : Work B). work.now) works) =
+    subst (λ (ds : List (DoorState B)). FaultsRose ds (map (λ (work : Work B). work.now) works)) are.old risen in
+    subst (λ (ds : List (DoorState B)). FaultsRose doors ds) are.new first
