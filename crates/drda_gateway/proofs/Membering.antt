@@ -1,16 +1,36 @@
 -- What the workers of a member made of their doors, put together.
-use Rattle.std.proofs.Common.{◌≡◌, ◌∙◌, ap, sym, refl, subst, ℕ, suc, ◌+◌, ◌<◌, ◌≤◌, min, Bool, true, false, List, [], ◌∷◌, length, map, take, get_or, ◌||◌, cond, inl, inr, ⊎_elim, ◌⊎◌, arith}
+use Rattle.std.proofs.Common.{◌≡◌, ◌∙◌, ap, sym, refl, subst, ℕ, suc, ◌+◌, ◌<◌, ◌≤◌, min, Bool, true, false, List, [], ◌∷◌, Option, Some, None, length, map, take, get_or, ◌||◌, cond, eqb, inl, inr, ⊎_elim, ◌⊎◌, arith}
 use Rattle.std.specs.Prelude.{slice_index_or}
 use Rattle.std.specs.List.{All, sum_by, list_any}
-use Rattle.std.proofs.lemmas.Bool.{or_cases}
+use Rattle.std.proofs.lemmas.Bool.{or_cases, eq-eqb, ne_eqb}
 use Rattle.std.proofs.lemmas.List.{take_more, take_all}
 use Rattle.std.proofs.lemmas.List.Elements.{All-nil, All-cons, All-head, All-tail}
 use Rattle.std.proofs.lemmas.List.Sums.{sum_by-cons, sum_by_push}
 use Rattle.link_ends.specs.Counts.{greatest, one_more, Rose}
 use Rattle.link_ends.specs.Doors.{DoorState}
+use Rattle.server_words.specs.Field.{given}
+use Rattle.server_words.specs.Member.{Membership, member_said}
 use Rattle.member_server.specs.declared.workers.Worked.{Worked}
 use Rattle.member_server.specs.Doors.{Work, AreWorks, HasWorked}
-use Rattle.drda_gateway.specs.Member.{WereServed, DoorFailed, FaultsRose}
+use Rattle.drda_gateway.specs.Member.{said_for, WereServed, DoorFailed, FaultsRose}
+
+-- ---- words, and as many doors as workers
+
+abbrev those : ℕ → Membership → Option Membership
+those doors said = cond (eqb said.options.workers doors) (Some said) None
+
+pub said_of : (words : List (List ℕ)) (doors : ℕ) (said : Membership) → Some said ≡ member_said words → said.options.workers ≡ doors →
+    Some said ≡ said_for words doors
+said_of words doors said says same =
+    sym (ap (λ b. cond b (Some said) None) (eq-eqb said.options.workers doors same)) ∙ ap (λ (o : Option Membership). given o (λ s. those doors s)) says
+
+pub not_said_of : (words : List (List ℕ)) (doors : ℕ) (said : Membership) → Some said ≡ member_said words → (said.options.workers ≡ doors → ⊥) →
+    None ≡ said_for words doors
+not_said_of words doors said says other =
+    sym (ap (λ b. cond b (Some said) None) (ne_eqb said.options.workers doors other)) ∙ ap (λ (o : Option Membership). given o (λ s. those doors s)) says
+
+pub unsaid : (words : List (List ℕ)) (doors : ℕ) → None ≡ member_said words → None ≡ said_for words doors
+unsaid words doors says = ap (λ (o : Option Membership). given o (λ s. those doors s)) says
 
 -- ---- sums of what was counted, up to the greatest value
 
@@ -70,6 +90,23 @@ module _ {D B : Type 0} (P : B → Type 0) (state : D → DoorState B) where
             sum_by-cons (λ (w : Work B). w.sessions) work rest.works ∙ ap (λ n. one.sessions + n) rest.sum
             ∙ sym (sum_by-cons (λ (o : Worked D). o.sessions) one worked);
         fails = ap (λ b. one.failed || b) rest.fails;
+      }
+
+  both : (worked : List (Worked D)) → map state (map (λ (one : Worked D). one.door) worked) ≡ map (λ (one : Worked D). state one.door) worked
+  both [] = refl
+  both (one ∷ worked) = ap (λ (ds : List (DoorState B)). state one.door ∷ ds) (both worked)
+
+  -- the doors that were put back, and what was counted
+  pub were_served : (doors back : List D) (worked : List (Worked D)) (failed : Bool) → length worked ≡ length doors → AreSo doors worked →
+      back ≡ map (λ (one : Worked D). one.door) worked → failed ≡ list_any (λ (one : Worked D). one.failed) worked →
+      WereServed P (sum_by (λ (one : Worked D). one.sessions) worked) failed (map state doors) (map state back)
+  were_served doors back worked failed same so put fails =
+      let of : Pairs doors worked = pairs doors worked same so in
+      record {
+        works = of.works;
+        are = record { old = of.are.old; new = of.are.new ∙ sym (ap (λ (ds : List D). map state ds) put ∙ both worked); each = of.are.each };
+        sum = of.sum;
+        fails = of.fails ∙ sym fails;
       }
 
 -- ---- a count of faults that rose

@@ -1,4 +1,4 @@
-ghost use Rattle.std.specs.Prelude.{◌≡◌, ◌≢◌, ◌≤◌, ◌++◌, ◌⊎◌, ℕ, true, Some, None, IfOk, OnOk, IsTrue, is_some, length, map, min, option_map, string_bytes, vec_len};
+ghost use Rattle.std.specs.Prelude.{◌≡◌, ◌≢◌, ◌≤◌, ◌++◌, ◌⊎◌, ℕ, true, Some, None, IfOk, OnOk, IsTrue, length, map, min, option_map, string_bytes, vec_len};
 ghost use Rattle.std.specs.List.{sum_by, list_any};
 ghost use Rattle.link_ends.specs.Counts.{greatest};
 ghost use Rattle.program_ends.specs.Ends.{Took, BrokeOff, NoWriteFailed, Offered};
@@ -43,7 +43,6 @@ pub fn member<
     ensures done { result ≡ 0 → ToldAsSaid Took (IsServed A.state store_meaning) (map string_bytes words.now)
         (map D.state doors.old.items) (map D.state doors.new.items) (K.state sink.old) (K.state sink.new) }
     ensures usage { result ≡ 1 → said_for (map string_bytes words.now) (length doors.old.items) ≡ None }
-    ensures words { result ≢ 1 → is_some (said_for (map string_bytes words.now) (length doors.old.items)) ≡ true }
     ensures usage_told { result ≡ 1 → Offered (K.state sink.old) (K.state sink.new) usage_text }
     ensures unasked { result ≡ 1 → doors.new.items ≡ doors.old.items }
     ensures door_fault { result ≡ 3 → DoorFailed (IsServed A.state store_meaning) (map D.state doors.old.items) (map D.state doors.new.items) }
@@ -56,6 +55,9 @@ pub fn member<
     ensures serves { (said : Membership) → said_for (map string_bytes words.now) (length doors.old.items) ≡ Some said
         → (FaultsRose (map D.state doors.old.items) (map D.state doors.new.items) → ⊥)
         → NoWriteFailed (K.state sink.old) (K.state sink.new) → (result ≡ 0) ⊎ (result ≡ 5) }
+
+    // Where they aren't, or there isn't, nothing is served.
+    ensures refuses { said_for (map string_bytes words.now) (length doors.old.items) ≡ None → (result ≡ 1) ⊎ (result ≡ 5) }
 {
     match said_for(alloc, words, doors.len()) {
         Ok(Some(said)) => serve(rt, alloc, &said, doors, sink),
