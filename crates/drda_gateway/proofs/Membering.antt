@@ -1,36 +1,21 @@
 -- What the workers of a member made of their doors, put together.
-use Rattle.std.proofs.Common.{◌≡◌, ◌∙◌, ap, sym, refl, subst, ℕ, suc, ◌+◌, ◌<◌, ◌≤◌, min, Bool, true, false, List, [], ◌∷◌, Option, Some, None, length, map, take, get_or, ◌||◌, cond, eqb, inl, inr, ⊎_elim, ◌⊎◌, arith}
+use Rattle.std.proofs.Common.{◌≡◌, ◌∙◌, ap, sym, refl, subst, ℕ, suc, ◌+◌, ◌<◌, ◌≤◌, min, Bool, true, false, List, [], ◌∷◌, Some, length, map, take, get_or, ◌||◌, cond, inl, inr, ⊎_elim, ◌⊎◌, arith}
 use Rattle.std.specs.Prelude.{slice_index_or}
 use Rattle.std.specs.List.{All, sum_by, list_any}
-use Rattle.std.proofs.lemmas.Bool.{or_cases, eq-eqb, ne_eqb}
+use Rattle.std.proofs.lemmas.Bool.{or_cases}
 use Rattle.std.proofs.lemmas.List.{take_more, take_all}
+use Rattle.std.proofs.lemmas.List.Folds.{list_any_more}
 use Rattle.std.proofs.lemmas.List.Elements.{All-nil, All-cons, All-head, All-tail}
 use Rattle.std.proofs.lemmas.List.Sums.{sum_by-cons, sum_by_push}
 use Rattle.link_ends.specs.Counts.{greatest, one_more, Rose}
 use Rattle.link_ends.specs.Doors.{DoorState}
-use Rattle.server_words.specs.Field.{given}
-use Rattle.server_words.specs.Member.{Membership, member_said}
+use Rattle.link_ends.specs.Sink.{SinkState}
+use Rattle.program_ends.specs.Ends.{BrokeOff, NoWriteFailed}
+use Rattle.program_ends.proofs.Commanding.{write_failed}
+use Rattle.server_words.specs.Member.{Membership}
 use Rattle.member_server.specs.declared.workers.Worked.{Worked}
 use Rattle.member_server.specs.Doors.{Work, AreWorks, HasWorked}
-use Rattle.drda_gateway.specs.Member.{said_for, WereServed, DoorFailed, FaultsRose}
-
--- ---- words, and as many doors as workers
-
-abbrev those : ℕ → Membership → Option Membership
-those doors said = cond (eqb said.options.workers doors) (Some said) None
-
-pub said_of : (words : List (List ℕ)) (doors : ℕ) (said : Membership) → Some said ≡ member_said words → said.options.workers ≡ doors →
-    Some said ≡ said_for words doors
-said_of words doors said says same =
-    sym (ap (λ b. cond b (Some said) None) (eq-eqb said.options.workers doors same)) ∙ ap (λ (o : Option Membership). given o (λ s. those doors s)) says
-
-pub not_said_of : (words : List (List ℕ)) (doors : ℕ) (said : Membership) → Some said ≡ member_said words → (said.options.workers ≡ doors → ⊥) →
-    None ≡ said_for words doors
-not_said_of words doors said says other =
-    sym (ap (λ b. cond b (Some said) None) (ne_eqb said.options.workers doors other)) ∙ ap (λ (o : Option Membership). given o (λ s. those doors s)) says
-
-pub unsaid : (words : List (List ℕ)) (doors : ℕ) → None ≡ member_said words → None ≡ said_for words doors
-unsaid words doors says = ap (λ (o : Option Membership). given o (λ s. those doors s)) says
+use Rattle.drda_gateway.specs.Member.{said_for, member_text, WereServed, Told, ToldAsSaid, DoorFailed, FaultsRose}
 
 -- ---- sums of what was counted, up to the greatest value
 
@@ -45,6 +30,15 @@ sum_more f xs i sum more x within is before after =
 pub sum_whole : {X : Type 0} (f : X → ℕ) (xs : List X) (i sum : ℕ) → length xs ≤ i → sum ≡ min (sum_by f (take i xs)) greatest →
     sum ≡ min (sum_by f xs) greatest
 sum_whole f xs i sum past is = is ∙ ap (λ ys. min (sum_by f ys) greatest) (take_all i xs past)
+
+-- whether one of one element more
+pub any_more : {X : Type 0} (p : X → Bool) (xs : List X) (i : ℕ) (some : Bool) (x : X) → i < length xs → x ≡ get_or xs i x →
+    some ≡ list_any p (take i xs) → (some || p x) ≡ list_any p (take (i + 1) xs)
+any_more p xs i some x within is before =
+    ap (λ b. b || p x) before ∙ ap (λ y. list_any p (take i xs) || p y) is ∙ sym (list_any_more p xs i x within)
+
+pub any_whole : {X : Type 0} (p : X → Bool) (xs : List X) (i : ℕ) (some : Bool) → length xs ≤ i → some ≡ list_any p (take i xs) → some ≡ list_any p xs
+any_whole p xs i some past is = is ∙ ap (λ ys. list_any p ys) (take_all i xs past)
 
 -- ---- doors and what their workers tell
 
@@ -135,3 +129,23 @@ fault_rose {B} P doors doors_now failed =
     let first : FaultsRose doors (map (λ (work : Work B). work.now) works) =
     subst (λ (ds : List (DoorState B)). FaultsRose ds (map (λ (work : Work B). work.now) works)) are.old risen in
     subst (λ (ds : List (DoorState B)). FaultsRose doors ds) are.new first
+
+-- ---- what is told
+
+pub as_said : {B : Type 0} (Wrote : SinkState → SinkState → List ℕ → Type 0) (P : B → Type 0) (words : List (List ℕ)) (count : ℕ) (said : Membership)
+    (doors doors_now : List (DoorState B)) (sink sink_now : SinkState) → Some said ≡ said_for words count → count ≡ length doors →
+    Told Wrote P said.options.sessions doors doors_now sink sink_now → ToldAsSaid Wrote P words doors doors_now sink sink_now
+as_said Wrote P words count said doors doors_now sink sink_now says is of =
+    record { said = said; says = sym (says ∙ ap (λ n. said_for words n) is); told = of }
+
+-- where no count of faults rose, all is told, or memory ran out
+pub all_told : {B : Type 0} (P : B → Type 0) (status sessions : ℕ) (doors doors_now : List (DoorState B)) (sink sink_now : SinkState) →
+    (status ≡ 0) ⊎ ((status ≡ 3) ⊎ ((status ≡ 4) ⊎ (status ≡ 5))) → (status ≡ 3 → DoorFailed P doors doors_now) →
+    (status ≡ 4 → Told BrokeOff P sessions doors doors_now sink sink_now) → (FaultsRose doors doors_now → ⊥) → NoWriteFailed sink sink_now →
+    (status ≡ 0) ⊎ (status ≡ 5)
+all_told P status sessions doors doors_now sink sink_now is door_fault sink_fault no_fault no_write =
+    ⊎_elim (λ done. inl done) (λ (other : (status ≡ 3) ⊎ ((status ≡ 4) ⊎ (status ≡ 5))).
+    ⊎_elim (λ (three : status ≡ 3). absurd (no_fault (fault_rose P doors doors_now (door_fault three)))) (λ (rest : (status ≡ 4) ⊎ (status ≡ 5)).
+    ⊎_elim (λ (four : status ≡ 4).
+    let begun = sink_fault four in
+    absurd (write_failed sink sink_now (member_text sessions begun.commits) begun.wrote no_write)) (λ five. inr five) rest) other) is

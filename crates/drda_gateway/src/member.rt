@@ -1,4 +1,4 @@
-ghost use Rattle.std.specs.Prelude.{◌≡◌, ◌≢◌, ◌≤◌, ◌++◌, ◌⊎◌, ℕ, true, Some, None, IfOk, OnOk, IsTrue, length, map, min, option_map, string_bytes, vec_len};
+ghost use Rattle.std.specs.Prelude.{◌≡◌, ◌≢◌, ◌<◌, ◌≤◌, ◌++◌, ◌⊎◌, ℕ, true, Some, None, IfOk, OnOk, IsTrue, length, map, min, option_map, string_bytes, vec_len};
 ghost use Rattle.std.specs.List.{sum_by, list_any};
 ghost use Rattle.link_ends.specs.Counts.{greatest};
 ghost use Rattle.program_ends.specs.Ends.{Took, BrokeOff, NoWriteFailed, Offered};
@@ -95,18 +95,22 @@ fn serve<R: Threads + Wait + Sync, A: Link + Send, D: Door<L = A, Back = A> + Se
     ensures unwritten { (result ≡ 3) ⊎ (result ≡ 5) → K.state sink.new ≡ K.state sink.old }
     ensures statuses { (result ≡ 0) ⊎ ((result ≡ 3) ⊎ ((result ≡ 4) ⊎ (result ≡ 5))) }
 {
-    match serve_all(rt, alloc, said, doors) {
-        Ok((counted, _)) if counted.failed => Status::SourceFault as u8,
-        Ok((counted, commits)) if is_whole(counted, said.sessions) => {
-            tell(alloc, counted.sessions, commits, sink)
-        }
-        _ => Status::NoMemory as u8,
+    let (counted, commits) = match serve_all(rt, alloc, said, doors) {
+        Ok(served) => served,
+        Err(NoMemory) => return Status::NoMemory as u8,
+    };
+    if counted.failed {
+        return Status::SourceFault as u8;
     }
+    if !is_whole(counted, said.sessions) {
+        return Status::NoMemory as u8;
+    }
+    tell(alloc, counted.sessions, commits, sink)
 }
 
 /// Whether all sessions were served, and none of them wanted memory.
 fn is_whole(counted: Counted, sessions: u32) -> bool
-    ensures { IsTrue result → counted.sessions ≡ sessions }
+    ensures { IsTrue result → (counted.sessions ≡ sessions) × (sessions < greatest) }
 {
     counted.sessions == u64::from(sessions) && !counted.wanted_memory
 }
@@ -143,22 +147,19 @@ fn count<D>(worked: &[Worked<D>]) -> Counted
     ensures sessions { result.sessions ≡ min (sum_by (λ one. one.sessions) worked.now) greatest }
     ensures failed { result.failed ≡ list_any (λ one. one.failed) worked.now }
 {
-    Counted {
-        sessions: sum(worked),
-        failed: worked.iter().any(|one| one.failed),
-        wanted_memory: worked.iter().any(|one| one.wanted_memory),
-    }
-}
-
-/// How many sessions there were in all, up to the greatest value.
-fn sum<D>(worked: &[Worked<D>]) -> u64
-    ensures { result ≡ min (sum_by (λ one. one.sessions) worked.now) greatest }
-{
     let mut sessions: u64 = 0;
+    let mut failed = false;
+    let mut wanted_memory = false;
     for one in worked {
         sessions = sessions.saturating_add(one.sessions);
+        failed |= one.failed;
+        wanted_memory |= one.wanted_memory;
     }
-    sessions
+    Counted {
+        sessions,
+        failed,
+        wanted_memory,
+    }
 }
 
 /// Puts the doors of all workers back.
