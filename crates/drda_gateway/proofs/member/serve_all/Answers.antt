@@ -11,7 +11,7 @@ pub returns : goal.returns
 returns g c =
     let worked = c.in_ok-worked.worked in
     let taken = c.replace-taken.result in
-    let counted : c.deref.result.now ≡ worked.items = c.deref.ensures.value in
+    let counted : c.deref-2.result.now ≡ worked.items = c.deref-2.ensures.value in
     let same : taken.items ≡ c.args.doors.now.items = search rules in
     let none : c.replace-taken.new.dest.items ≡ [] = search rules in
     let put : c.put_back.new.doors.items ≡ map (λ one. one.door) worked.items =
