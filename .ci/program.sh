@@ -199,5 +199,13 @@ check 'a word behind the numbers' 1 "$usage" make 7 1 1 1
 status=$?
 compare 'a made script to a full standard output' 4
 
+# A member: words that aren't right, and an address of no interface here (RFC 5737), at which nothing can listen.
+usage='usage: drda_gateway member --listen ADDR --sessions N --workers N USER...'
+: >"$folder/script"
+check 'a member without users' 1 "$usage" member --listen 127.0.0.1:0 --sessions 1 --workers 1
+check 'a member that is asked for help' 1 "$usage" member --help
+check 'a member of too many workers' 1 "$usage" member --listen 127.0.0.1:0 --sessions 1 --workers 65 ALICE:SECRET
+check 'an address at which nothing can listen' 3 '' member --listen 192.0.2.1:4460 --sessions 1 --workers 2 ALICE:SECRET
+
 echo "program: $passed passed, $failed failed"
 [ "$failed" -eq 0 ]

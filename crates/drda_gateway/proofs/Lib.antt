@@ -6,3 +6,4 @@ pub mod Headline
 pub mod UserLemmas
 pub mod Playing
 pub mod Tracing
+pub mod Membering

@@ -16,3 +16,4 @@ pub mod Play
 pub mod Trace
 pub mod Make
 pub mod Users
+pub mod Member

@@ -5,6 +5,7 @@ mod answer;
 mod command;
 mod laws;
 mod make;
+mod member;
 mod play;
 mod report;
 mod script;
@@ -14,12 +15,18 @@ mod tests;
 mod trace;
 mod world;
 
-use link_ends::NoMemory;
+use link_ends::{NoMemory, Sink};
 use make::make;
+use member::member;
 use play::play;
 use program_ends::{StdSink, StdSource};
+use server_words::read_member;
+use std::net::{Net, TcpListener, TcpStream};
 use std::process::ExitCode;
+use std::sync::Wait;
+use std::thread::Threads;
 use std::{env, io};
+use tcp_links::{TcpDoor, TcpLink};
 use trace::trace;
 
 /// The status of a program that finds no memory for its words.
@@ -44,6 +51,26 @@ fn words(rt: &HostRuntime) -> Result<Vec<String>, NoMemory> {
     Ok(words)
 }
 
+/// Runs `member` over as many doors of one listener as its words say; over none where they aren't right. Where there can be no
+/// listener, each door fails.
+fn run_member<
+    R: Net<Stream = TcpStream, Listener = TcpListener> + Threads + Wait + Sync + AllocGlobal,
+    K: Sink,
+>(rt: &R, words: &[String], sink: &mut K) -> Result<u8, NoMemory> {
+    let said = read_member(rt.alloc(), words)?;
+    let listener = match &said {
+        Some(said) => TcpListener::bind(rt, said.listen.as_str()).ok(),
+        None => None,
+    };
+    let mut doors: Vec<TcpDoor<'_, TcpLink>> = Vec::new(rt.alloc());
+    if let Some(said) = &said {
+        for _ in 0..said.workers {
+            doors.push(TcpDoor::new(listener.as_ref()))?;
+        }
+    }
+    Ok(member(rt, rt.alloc(), words, &mut doors, sink))
+}
+
 fn main(rt: HostRuntime) -> ExitCode {
     let Ok(words) = words(&rt) else {
         return ExitCode::from(NO_MEMORY);
@@ -53,6 +80,9 @@ fn main(rt: HostRuntime) -> ExitCode {
     let status = match words.first() {
         Some(word) if word.as_str() == "trace" => trace(rt.alloc(), &words, &mut source, &mut sink),
         Some(word) if word.as_str() == "make" => make(rt.alloc(), &words, &mut sink),
+        Some(word) if word.as_str() == "member" => {
+            run_member(&rt, &words, &mut sink).unwrap_or(NO_MEMORY)
+        },
         _ => play(rt.alloc(), &words, &mut source, &mut sink),
     };
     ExitCode::from(status)

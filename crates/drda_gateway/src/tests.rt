@@ -1,12 +1,20 @@
+ghost use Rattle.std.specs.Prelude.{IfOk};
+ghost use Rattle.link_ends.specs.Link.{IsFresh};
+ghost use Rattle.link_ends.specs.Prepared.{wire_state};
+
 use crate::make::make;
+use crate::member::member;
 use crate::play::play;
 use crate::report::report;
 use crate::script::Line;
 use crate::trace::trace;
 use crate::world::run_script;
-use link_ends::{Marks, MemSink, MemSource, NoMemory, Octets};
+use hex_lines::read_hex;
+use link_ends::{Marks, MemDoor, MemLink, MemSink, MemSource, NoMemory, Octets};
 use std::alloc::Global;
+use std::sync::Wait;
 use std::test::Fail;
+use std::thread::Threads;
 
 /// A script whose application sends EXCSAT, and what it takes.
 const GREETING: &str =
@@ -218,6 +226,15 @@ fn a_chain_past_the_limit_ends_its_session(rt: HostRuntime) -> Result<(), Fail> 
     Ok(())
 }
 
+/// The words of a line.
+fn words_of(alloc: Global, line: &str) -> Result<Vec<String>, NoMemory> {
+    let mut words = Vec::new(alloc);
+    for word in line.split_whitespace() {
+        words.push(String::from_str(alloc, word)?)?;
+    }
+    Ok(words)
+}
+
 /// Whether `make` with the words of a line answers this status and writes this text, where these calls of its sink fail.
 fn makes(
     alloc: Global,
@@ -226,10 +243,7 @@ fn makes(
     status: u8,
     written: &str,
 ) -> Result<bool, NoMemory> {
-    let mut words = Vec::new(alloc);
-    for word in line.split(' ') {
-        words.push(String::from_str(alloc, word)?)?;
-    }
+    let words = words_of(alloc, line)?;
     let mut sink = MemSink::new(alloc, 1_048_576, Marks::of(alloc, fails)?)?;
     let answer = make(alloc, &words, &mut sink);
     Ok(answer == status && sink.written() == written.as_bytes())
@@ -247,5 +261,82 @@ sql 1 INSERT INTO T VALUES (1, 'V19564')\nsettle 100000\ncommit 1\nsettle 100000
     assert!(rt; makes(alloc, "make 07 1 1", &[], 1, usage)?);
     assert!(rt; makes(alloc, "make 7 1 101", &[0], 1, "")?);
     assert!(rt; makes(alloc, "make 7 1 1", &[0], 4, "")?);
+    Ok(())
+}
+
+/// Words of `member` that are right.
+const SERVES_ONE: &str = "member --listen 127.0.0.1:0 --sessions 1 --workers 1 ALICE:SECRET";
+
+/// The same without a user.
+const SERVES_NOBODY: &str = "member --listen 127.0.0.1:0 --sessions 1 --workers 1";
+
+/// What a gateway says first to a member, and what it is answered: EXCSAT with the levels of both, and EXCSATRD.
+const HELLO: &str = "0022D0010001001C1041001814041403000724070007240F00071440000714740005";
+
+const WELCOME: &str = "0022D0030001001C1443001814041403000724070007240F00071440000714740005";
+
+/// The bytes that these digits spell; none where they spell none.
+fn bytes_of(alloc: Global, digits: &str) -> Result<Octets, NoMemory> {
+    match read_hex(alloc, digits.as_bytes())? {
+        Some(bytes) => Ok(bytes),
+        None => Ok(Octets::new(alloc)),
+    }
+}
+
+/// A link that nobody used, which says the first chain and then ends.
+fn hello(alloc: Global) -> Result<MemLink, NoMemory>
+    ensures { IfOk result (λ link. IsFresh (wire_state link)) }
+{
+    let fails = Marks::of(alloc, &[])?;
+    MemLink::new(alloc, bytes_of(alloc, HELLO)?, 1_048_576, fails)
+}
+
+/// A door with so many such links.
+fn door(alloc: Global, links: u32) -> Result<MemDoor<MemLink>, NoMemory> {
+    let mut door = MemDoor::new(alloc);
+    for _ in 0..links {
+        door.add(hello(alloc)?)?;
+    }
+    Ok(door)
+}
+
+/// Whether `member` with one door of so many links answers this status and writes this text, where these calls of its sink fail, and
+/// whether a link came back with its answer.
+fn serves<R: Threads + Wait + Sync>(
+    rt: &R,
+    alloc: Global,
+    line: &str,
+    links: u32,
+    fails: &[u32],
+    (status, written, answered): (u8, &str, bool),
+) -> Result<bool, NoMemory> {
+    let words = words_of(alloc, line)?;
+    let mut doors = Vec::new(alloc);
+    doors.push(door(alloc, links)?)?;
+    let mut sink = MemSink::new(alloc, 1_048_576, Marks::of(alloc, fails)?)?;
+    let answer = member(rt, alloc, &words, &mut doors, &mut sink);
+    let welcome = bytes_of(alloc, WELCOME)?;
+    let is_answered = match came_back(&doors) {
+        Some(link) => link.written() == welcome.as_slice(),
+        None => false,
+    };
+    Ok(answer == status && sink.written() == written.as_bytes() && is_answered == answered)
+}
+
+/// The first link that came back to the first door.
+fn came_back(doors: &[MemDoor<MemLink>]) -> Option<&MemLink> {
+    doors.first()?.served(0)
+}
+
+#[test]
+fn serves_as_a_member_by_causes(rt: HostRuntime) -> Result<(), Fail> {
+    let alloc = rt.alloc();
+    let usage = "usage: drda_gateway member --listen ADDR --sessions N --workers N USER...\n";
+    let told = "sessions 1\ncommits 0\n";
+    assert!(rt; serves(&rt, alloc, SERVES_ONE, 1, &[], (0, told, true))?);
+    assert!(rt; serves(&rt, alloc, SERVES_NOBODY, 1, &[], (1, usage, false))?);
+    assert!(rt; serves(&rt, alloc, SERVES_NOBODY, 1, &[0], (1, "", false))?);
+    assert!(rt; serves(&rt, alloc, SERVES_ONE, 0, &[], (3, "", false))?);
+    assert!(rt; serves(&rt, alloc, SERVES_ONE, 1, &[0], (4, "", true))?);
     Ok(())
 }

@@ -3,8 +3,10 @@
 #![tactic(auto)]
 
 mod session;
+mod workers;
 
 pub use session::{MemberEnd, member_session};
+pub use workers::{Worked, serve_doors};
 
 #[cfg(test)]
 mod tests;

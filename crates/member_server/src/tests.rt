@@ -1,10 +1,15 @@
+ghost use Rattle.std.specs.Prelude.{IfOk};
+ghost use Rattle.link_ends.specs.Link.{IsFresh};
+ghost use Rattle.link_ends.specs.Prepared.{wire_state};
+
 use super::*;
 use group_store::Store;
 use hex_lines::read_hex;
-use link_ends::{Marks, MemLink, NoMemory, Octets};
+use link_ends::{Marks, MemDoor, MemLink, NoMemory, Octets};
 use std::alloc::Global;
 use std::sync::{Mutex, Wait};
 use std::test::Fail;
+use std::thread::Threads;
 
 // A row is a line of five fields, parted by `|`: the bytes that a link has, in digits; how many written bytes fit; the number of the
 // call that fails, or none; how the conversation ends; and the bytes that were written, in digits. The rows: EXCSAT, and its answer;
@@ -77,6 +82,79 @@ fn is_told(alloc: Global, end: MemberEnd, written: &[u8], row: &str) -> Result<b
 fn a_link_is_answered_to_its_end(rt: HostRuntime) -> Result<(), Fail> {
     for row in ROWS.lines() {
         assert!(rt; holds(&rt, rt.alloc(), row)?);
+    }
+    Ok(())
+}
+
+/// EXCSAT, and its answer.
+const ASKED: &str = "0022D0010001001C1041001814041403000724070007240F00071440000714740005";
+
+const TOLD: &str = "0022D0030001001C1443001814041403000724070007240F00071440000714740005";
+
+/// A link that nobody used, which asks EXCSAT and then ends.
+fn asking(alloc: Global) -> Result<MemLink, NoMemory>
+    ensures { IfOk result (λ link. IsFresh (wire_state link)) }
+{
+    MemLink::new(alloc, bytes(alloc, ASKED)?, 100, marks(alloc, "")?)
+}
+
+/// A door with so many such links.
+fn door(alloc: Global, links: u32) -> Result<MemDoor<MemLink>, NoMemory> {
+    let mut door = MemDoor::new(alloc);
+    for _ in 0..links {
+        door.add(asking(alloc)?)?;
+    }
+    Ok(door)
+}
+
+/// Whether as many links as were served came back, each with the answer.
+fn came_back(alloc: Global, one: &Worked<MemDoor<MemLink>>) -> Result<bool, NoMemory> {
+    let told = bytes(alloc, TOLD)?;
+    for i in 0..one.sessions {
+        match one.door.served(i as usize) {
+            Some(link) if link.written() == told.as_slice() => {}
+            _ => return Ok(false),
+        }
+    }
+    Ok(one.door.served(one.sessions as usize).is_none())
+}
+
+/// How many links two workers serve, of whose doors each has as many as these, and whether a door failed; none where not each came
+/// back with its answer.
+fn serves<R: Threads + Wait + Sync>(
+    rt: &R,
+    alloc: Global,
+    prepared: u32,
+    links: u32,
+) -> Result<Option<(u64, bool)>, NoMemory> {
+    let store = Mutex::new(Store::new(alloc));
+    let mut doors = Vec::new(alloc);
+    doors.push(door(alloc, prepared)?)?;
+    doors.push(door(alloc, prepared)?)?;
+    let mut sessions: u64 = 0;
+    let mut failed = false;
+    for one in &serve_doors(rt, alloc, &store, doors, links)? {
+        if !came_back(alloc, one)? {
+            return Ok(None);
+        }
+        sessions = sessions.saturating_add(one.sessions);
+        failed = failed || one.failed;
+    }
+    Ok(Some((sessions, failed)))
+}
+
+// A row is how many links each of two doors has, how many are asked for in all, how many are served, and whether a door failed.
+#[test]
+fn workers_serve_the_links_of_their_doors(rt: HostRuntime) -> Result<(), Fail> {
+    for (prepared, links, sessions, failed) in [
+        (2, 2, 2, false),
+        (1, 3, 2, true),
+        (0, 1, 0, true),
+    ] {
+        assert_eq!(rt;
+            serves(&rt, rt.alloc(), prepared, links)?,
+            Some((sessions, failed))
+        );
     }
     Ok(())
 }
