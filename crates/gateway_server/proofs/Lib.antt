@@ -1,0 +1,5 @@
+pub mod Dialling
+pub mod Feeds
+pub mod Goes
+pub mod Gripping
+pub mod Told
