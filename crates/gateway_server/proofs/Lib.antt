@@ -2,4 +2,8 @@ pub mod Dialling
 pub mod Feeds
 pub mod Goes
 pub mod Gripping
+pub mod Saying
+pub mod Telling
+pub mod Lasting
+pub mod Serving
 pub mod Told

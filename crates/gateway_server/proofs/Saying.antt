@@ -11,7 +11,7 @@ use Rattle.plain_model.specs.Core.{Core, After, Owed, Nothing, Rerouted, Unknown
 use Rattle.plain_model.specs.Core as core
 use Rattle.plain_model.specs.Begun.{Reading, Chain, Fault, TooLong, begun}
 use Rattle.plain_model.specs.Answered.{answered, answered_by, answered_core, register_fault}
-use Rattle.plain_model.specs.Lost.{lost, lost_owing, commit_sent, owes, rolled_back_with, rerouted_card, accepted, none_left, closed}
+use Rattle.plain_model.specs.Lost.{lost, lost_owing, commit_sent, owes, rolled_back_with, rerouted_card, accepted, none_left, closed, left, end_or, app_end}
 use Rattle.plain_model.proofs.Cores.{settled_finished, is_finished, after_unit}
 use Rattle.session_core.specs.Incoming.{next_of, without_next, with_piece}
 use Rattle.requester_core.specs.declared.got.Got.{Got}
@@ -46,21 +46,21 @@ pub record Goes (old new : Seen) : Type 0 where
   pub more : List ℕ
   pub says : new.to_say ≡ old.to_say ++ more
   pub gone : new.gone ≡ old.gone
-  pub left : is_left new.end ≡ true → is_left old.end ≡ true
+  pub there : is_left new.end ≡ true → is_left old.end ≡ true
 
 stays : (s : Seen) → Goes s s
-stays s = record { more = []; says = sym (append-nil s.to_say); gone = refl; left = λ e. e }
+stays s = record { more = []; says = sym (append-nil s.to_say); gone = refl; there = λ e. e }
 
 -- where the end is another
 ends : (s : Seen) (end : Option core.End) → (is_left end ≡ true → is_left s.end ≡ true) → Goes s (record s { end = end })
-ends s end h = record { more = []; says = sym (append-nil s.to_say); gone = refl; left = h }
+ends s end h = record { more = []; says = sym (append-nil s.to_say); gone = refl; there = h }
 
 says_more : (old new : Seen) (bytes : List ℕ) → Goes old new → Goes old (record new { to_say = new.to_say ++ bytes })
 says_more old new bytes h = record {
   more = h.more ++ bytes;
   says = ap (λ (xs : List ℕ). xs ++ bytes) h.says ∙ append_assoc old.to_say h.more bytes;
   gone = h.gone;
-  left = h.left;
+  there = h.there;
 }
 
 on : (a b c : Seen) → Goes a b → Goes b c → Goes a c
@@ -68,7 +68,7 @@ on a b c x y = record {
   more = x.more ++ y.more;
   says = y.says ∙ ap (λ (xs : List ℕ). xs ++ y.more) x.says ∙ append_assoc a.to_say x.more y.more;
   gone = y.gone ∙ x.gone;
-  left = λ e. x.left (y.left e);
+  there = λ e. x.there (y.there e);
 }
 
 -- ---- cores
@@ -302,6 +302,19 @@ input_goes (AppEnd failed) s no = absurd cc
 lost_says : (reason : LossWhy) (held : Option Held) (s : Session) → (lost_by_held reason held s).to_say ≡ s.to_say
 lost_says reason None s = refl
 lost_says reason (Some held) s = refl
+
+-- and a loss leaves the end
+lost_ends : (reason : LossWhy) (held : Option Held) (s : Session) → (lost_by_held reason held s).core.end ≡ s.core.end
+lost_ends reason None s = refl
+lost_ends reason (Some held) s = lost_end s.core
+
+pub app_end_ends : (failed : Bool) (s : Session) → (after_app_end failed s).core.end ≡ Some (end_or s.core.end (app_end failed))
+unfolding after_app_end, after_lost, left
+app_end_ends failed s = ap (λ (e : Option core.End). Some (end_or e (app_end failed))) (lost_ends why.Left s.held s)
+
+pub app_end_gone : (failed : Bool) (s : Session) → (after_app_end failed s).gone ≡ true
+unfolding after_app_end
+app_end_gone failed s = refl
 
 pub app_end_says : (failed : Bool) (s : Session) → (after_app_end failed s).to_say ≡ s.to_say
 unfolding after_app_end, after_lost

@@ -11,7 +11,7 @@ use Rattle.gateway_session.specs.Inputs.{Input, App, Lend, Dialled, Sent, Back, 
 use Rattle.gateway_server.specs.Dialling.{finds_memory}
 use Rattle.gateway_server.specs.Feeding.{after_turn}
 use Rattle.gateway_server.specs.Went.{Fed, after_all, bytes_said, said_by, added_out, out_by, reply_out, memory_by, left_in}
-use Rattle.gateway_server.proofs.Saying.{added_behind}
+use Rattle.gateway_server.proofs.Saying.{Seen, seen, added_behind}
 
 -- ---- one step of a session that runs
 
@@ -33,23 +33,23 @@ said_behind (Lose reason) s = refl
 said_behind (AppEnd failed) s = refl
 
 -- the session that it comes to
-record GoesOn (i : Input) (s : Session) : Type 0 where
+pub record GoesOn (i : Input) (s : Session) : Type 0 where
   pub next : Session
   pub is : after_turn true i (Runs s) ≡ Runs next
-  pub says : next.to_say ≡ (after_input i s).to_say
+  pub same : seen next ≡ seen (after_input i s)
 
-goes_on : (i : Input) (s : Session) → GoesOn i s
-goes_on (App piece) s = record { next = _; is = refl; says = refl }
-goes_on (Lend lent) s = record { next = _; is = refl; says = refl }
-goes_on (Dialled reached) s = record { next = _; is = refl; says = refl }
-goes_on (Sent count) s = record { next = _; is = refl; says = refl }
-goes_on (Back piece) s = record { next = _; is = refl; says = refl }
-goes_on Given s = record { next = _; is = refl; says = refl }
-goes_on (Said count) s = record { next = _; is = refl; says = refl }
-goes_on (Lose reason) s = record { next = _; is = refl; says = refl }
-goes_on (AppEnd failed) s = record { next = _; is = refl; says = refl }
+pub goes_on : (i : Input) (s : Session) → GoesOn i s
+goes_on (App piece) s = record { next = _; is = refl; same = refl }
+goes_on (Lend lent) s = record { next = _; is = refl; same = refl }
+goes_on (Dialled reached) s = record { next = _; is = refl; same = refl }
+goes_on (Sent count) s = record { next = _; is = refl; same = refl }
+goes_on (Back piece) s = record { next = _; is = refl; same = refl }
+goes_on Given s = record { next = _; is = refl; same = refl }
+goes_on (Said count) s = record { next = _; is = refl; same = refl }
+goes_on (Lose reason) s = record { next = _; is = refl; same = refl }
+goes_on (AppEnd failed) s = record { next = _; is = refl; same = refl }
 
-stops : (i : Input) (s : Session) → after_turn false i (Runs s) ≡ Closes (closing_with (unsaid i s) s)
+pub stops : (i : Input) (s : Session) → after_turn false i (Runs s) ≡ Closes (closing_with (unsaid i s) s)
 stops (App piece) s = refl
 stops (Lend lent) s = refl
 stops (Dialled reached) s = refl
@@ -62,7 +62,7 @@ stops (AppEnd failed) s = refl
 
 -- ---- one step of a session that closes
 
-record ClosesOn (m : Bool) (i : Input) (c : Closing) : Type 0 where
+pub record ClosesOn (m : Bool) (i : Input) (c : Closing) : Type 0 where
   pub next : Closing
   pub is : after_turn m i (Closes c) ≡ Closes next
   pub says : bytes_said i (Closes c) ++ left_in (Closes next) ≡ left_in (Closes c)
@@ -75,7 +75,7 @@ rest_said count (byte ∷ bytes) c e =
     sym (append_assoc (take count (byte ∷ bytes)) (drop count (byte ∷ bytes)) c.reply)
     ∙ ap (λ (xs : List ℕ). xs ++ c.reply) (take-append-drop count (byte ∷ bytes))
 
-closes_on : (m : Bool) (i : Input) (c : Closing) → ClosesOn m i c
+pub closes_on : (m : Bool) (i : Input) (c : Closing) → ClosesOn m i c
 closes_on true (App piece) c = record { next = c; is = refl; says = refl }
 closes_on true (Lend lent) c = record { next = c; is = refl; says = refl }
 closes_on true (Dialled reached) c = record { next = c; is = refl; says = refl }
@@ -133,7 +133,7 @@ all_told (t ∷ others) s = told_next t others (Runs s) ∙ by t.memory
         let due : List ℕ = due_on others (Runs step.next) in
         ap (λ (state : State). front ++ told_on others state) step.is
         ∙ ap (λ (bytes : List ℕ). front ++ bytes) (all_told others step.next)
-        ∙ ap (λ (bytes : List ℕ). front ++ (bytes ++ due)) (step.says ∙ added_is t.input s)
+        ∙ ap (λ (bytes : List ℕ). front ++ (bytes ++ due)) (ap (λ (x : Seen). x.to_say) step.same ∙ added_is t.input s)
         ∙ ap (λ (bytes : List ℕ). front ++ bytes) (append_assoc (unsaid t.input s) (added t.input s) due)
         ∙ sym (append_assoc front (unsaid t.input s) (added t.input s ++ due))
         ∙ ap (λ (bytes : List ℕ). bytes ++ (added t.input s ++ due)) (said_behind t.input s)

@@ -1,5 +1,5 @@
 -- Sessions that end by their application. This project's own.
-use Rattle.std.specs.Prelude.{◌≡◌, Bool, true, false, Option, Some, None}
+use Rattle.std.specs.Prelude.{Bool, true, false, not, ◌||◌, Option, Some, None}
 use Rattle.plain_model.specs.Core as core
 use Rattle.gateway_session.specs.Memory.{State, Runs, Closes}
 
@@ -13,6 +13,6 @@ is_left (Some core.NoMember) = false
 is_left (Some (core.Limit kind)) = false
 
 -- a session that its application ended has nobody to say anything to
-abbrev pub IsGone : State → Type 0
-IsGone (Runs s) = is_left s.core.end ≡ true → s.gone ≡ true
-IsGone (Closes closing) = Unit {0}
+abbrev pub is_gone : State → Bool
+is_gone (Runs s) = not (is_left s.core.end) || s.gone
+is_gone (Closes closing) = true

@@ -7,3 +7,4 @@ pub mod Runs
 pub mod Dialling
 pub mod Went
 pub mod Served
+pub mod Lasting

@@ -14,3 +14,6 @@ pub use event::Event;
 pub use lease::Lease;
 pub use run::{Done, NotMade, Run, Step};
 pub use serving::serve_session;
+
+#[cfg(test)]
+mod tests;

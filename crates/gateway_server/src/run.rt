@@ -2,6 +2,7 @@
 ghost use Rattle.std.specs.Prelude.{◌≡◌, true, vec_len};
 ghost use Rattle.gateway_server.specs.Leases.{grip_in, grip_of, rests_in};
 ghost use Rattle.gateway_server.specs.Dialling.{AsksDial};
+ghost use Rattle.gateway_server.specs.Leaving.{is_gone};
 
 use crate::event::Event;
 use crate::lease::Lease;
@@ -24,6 +25,7 @@ pub enum Step {
 }
 
 /// The parts of a run for which there was no memory.
+#[derive(Drop)]
 pub struct NotMade<A, N, D> {
     pub app: A,
     pub lender: D,
@@ -38,6 +40,7 @@ pub struct Done<A: Link> {
 }
 
 /// A session with what it holds of a pool, its application's link, its lender and its dial, and room for what is read at once.
+#[derive(Drop)]
 pub struct Run<A: Link, N: Dial, D: Lender<L = N::L>> {
     session: Session,
     lease: Lease<N::L>,
@@ -48,6 +51,7 @@ pub struct Run<A: Link, N: Dial, D: Lender<L = N::L>> {
     ghost ties: { grip_in session ≡ grip_of lease },
     ghost rest: { rests_in session ≡ true },
     ghost asks: { AsksDial session },
+    ghost leaves: { is_gone session ≡ true },
     ghost room: { vec_len bytes ≡ 4096 },
 }
 
