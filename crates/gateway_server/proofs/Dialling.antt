@@ -18,7 +18,8 @@ use Rattle.gateway_server.specs.Feeding.{after_feeding}
 use Rattle.gateway_server.specs.declared.lease.Lease.{Lease}
 use Rattle.gateway_server.specs.declared.lease.Lease.TheVariants as leases
 use Rattle.gateway_server.specs.Leases as lease
-use Rattle.gateway_server.specs.Leases.{Grip, Free, Allowed, Follows, grip_in, grip_of, grip_lent, granted_in}
+use Rattle.gateway_server.specs.Leases.{Grip, Free, Allowed, Follows, grip_in, grip_of, grip_lent, grip_of_held, granted_in}
+use Rattle.gateway_server.proofs.Gripping.{says_in}
 use Rattle.gateway_server.specs.Dialling.{pending, pending_in, AsksDial, finds_memory, AfterLend, Counted, counted, Balanced}
 
 abbrev pub is_dial : Need → Bool
@@ -28,12 +29,16 @@ is_dial _ = false
 -- ---- what isn't pending
 
 pending_by : (grip : Grip) (n : Need) → (pending grip ≡ 1 → n ≡ need.Dial) → is_dial n ≡ false → pending grip ≡ 0
-pending_by Free n asks no = refl
-pending_by (Allowed number) n asks no = (let e : n ≡ need.Dial = asks refl in absurd cc)
-pending_by (lease.Dialled number) n asks no = refl
+pending_by Free n asks other = refl
+pending_by (Allowed number) n asks other = (let e : n ≡ need.Dial = asks refl in absurd cc)
+pending_by (lease.Dialled number) n asks other = refl
 
 pub not_pending : (state : State) (n : Need) → AsksDial state → need_in state ≡ n → is_dial n ≡ false → pending_in state ≡ 0
-not_pending state n asks e no = pending_by (grip_in state) (need_in state) asks (ap is_dial e ∙ no)
+not_pending state n asks e other = pending_by (grip_in state) (need_in state) asks (ap is_dial e ∙ other)
+
+-- nothing is held where a transport is asked for
+pub lend_pending : (state : State) → need_in state ≡ need.Lend → pending_in state ≡ 0
+lend_pending state e = ap (λ (held : Option Held). pending (grip_of_held held)) (says_in state need.Lend e)
 
 pub follows_none : (new old : Grip) → Follows new old → pending old ≡ 0 → pending new ≡ 0
 follows_none Free old f none = refl
@@ -69,8 +74,8 @@ starved_before (AppEnd failed) closing = refl
 
 pub memory_before : (m : Bool) (i : Input) (state : State) → finds_memory (after_feeding m i state) ≡ true → finds_memory state ≡ true
 memory_before m i (Runs s) h = refl
-memory_before true i (Closes closing) h = (let no = found_before i closing in cc)
-memory_before false i (Closes closing) h = (let no = starved_before i closing in cc)
+memory_before true i (Closes closing) h = (let other = found_before i closing in cc)
+memory_before false i (Closes closing) h = (let other = starved_before i closing in cc)
 
 -- ---- a right to dial is what is needed next
 
@@ -109,23 +114,23 @@ is_dial_lent (lent.Dial number member) = true
 is_dial_lent _ = false
 
 lent_none : (l : Lent) (new : Grip) → is_dial_lent l ≡ false → Follows new (grip_lent l) → pending new ≡ 0
-lent_none (lent.Idle number member) new no f = follows_none new (lease.Dialled number) f refl
-lent_none (lent.Dial number member) new no f = absurd cc
-lent_none lent.Queue new no f = follows_none new Free f refl
-lent_none lent.NoneLeft new no f = follows_none new Free f refl
-lent_none lent.Worn new no f = follows_none new Free f refl
+lent_none (lent.Idle number member) new other f = follows_none new (lease.Dialled number) f refl
+lent_none (lent.Dial number member) new other f = absurd cc
+lent_none lent.Queue new other f = follows_none new Free f refl
+lent_none lent.NoneLeft new other f = follows_none new Free f refl
+lent_none lent.Worn new other f = follows_none new Free f refl
 
 lent_pending : (l : Lent) → is_dial_lent l ≡ false → pending (grip_lent l) ≡ 0
-lent_pending (lent.Idle number member) no = refl
-lent_pending (lent.Dial number member) no = absurd cc
-lent_pending lent.Queue no = refl
-lent_pending lent.NoneLeft no = refl
-lent_pending lent.Worn no = refl
+lent_pending (lent.Idle number member) other = refl
+lent_pending (lent.Dial number member) other = absurd cc
+lent_pending lent.Queue other = refl
+lent_pending lent.NoneLeft other = refl
+lent_pending lent.Worn other = refl
 
 others_lent : (l : Lent) (new : State) → is_dial_lent l ≡ false → Follows (grip_in new) (grip_lent l) → AfterLend l new
-others_lent l new no f =
-    let none : pending_in new ≡ 0 = lent_none l (grip_in new) no f in
-    let same : pending (grip_lent l) ≡ 0 = lent_pending l no in
+others_lent l new other f =
+    let none : pending_in new ≡ 0 = lent_none l (grip_in new) other f in
+    let same : pending (grip_lent l) ≡ 0 = lent_pending l other in
     record { asks = asks_none new none; most = omega arith; all = λ found. none ∙ sym same }
 
 dial_lent : (m : Bool) (number member : ℕ) (state : State) → need_in state ≡ need.Lend
@@ -146,14 +151,21 @@ lend_asks m lent.Worn state e f = others_lent lent.Worn (after_feeding m (Lend l
 
 -- ---- a list that is asked for changes nothing of it
 
+-- a session that was asked for its list
+abbrev unlisted : Session → Session
+unlisted s = record s { unasked = record s.unasked { list = None } }
+
+list_saying : (bytes : List ℕ) (s : Session) → need_by_saying bytes (unlisted s) ≡ need_by_saying bytes s
+list_saying [] s = refl
+list_saying (byte ∷ bytes) s = refl
+
+list_end : (end : Option core.End) (s : Session) → need_by_end end (unlisted s) ≡ need_by_end end s
+list_end None s = ap (λ (n : Need). cond (is_released s.held) need.Give n) (list_saying s.to_say s)
+list_end (Some end) s = refl
+
 pub list_needs : (state : State) → need_in (without_list state) ≡ need_in state
 unfolding session.need
-list_needs (Runs s) = by_end s.core.end
-  where
-    by_end : (end : Option core.End)
-        → need_by_end end (record s { unasked = record s.unasked { list = None } }) ≡ need_by_end end s
-    by_end None = refl
-    by_end (Some end) = refl
+list_needs (Runs s) = list_end s.core.end s
 list_needs (Closes closing) = refl
 
 pub list_memory : (state : State) → finds_memory (without_list state) ≡ finds_memory state
@@ -203,7 +215,7 @@ balanced_same a s =
 
 -- where the last state is told otherwise
 pub balanced_list : (a b : Counted) (s t : State) → Balanced a b s t → Balanced a b s (without_list t)
-balanced_list a b s (Runs t) x = x
+balanced_list a b s (Runs t) x = record { calls = x.calls; dials = x.dials; memory = x.memory; most = x.most; all = x.all }
 balanced_list a b s (Closes t) x = x
 
 -- ---- the turns
@@ -217,8 +229,8 @@ memory_of m i old new e found = memory_before m i old (ap finds_memory (sym e) �
 -- a call that neither lends nor dials
 pub quiet_turn : (a : Counted) (m : Bool) (i : Input) (old new : State) (n : Need) → new ≡ after_feeding m i old → AsksDial old → need_in old ≡ n
     → is_dial n ≡ false → (pending_in old ≡ 0 → pending_in new ≡ 0) → Quiet a old new
-quiet_turn a m i old new n e asks needs no keeps =
-    let before : pending_in old ≡ 0 = not_pending old n asks needs no in
+quiet_turn a m i old new n e asks needs other keeps =
+    let before : pending_in old ≡ 0 = not_pending old n asks needs other in
     let after : pending_in new ≡ 0 = keeps before in
     (quiet a a old new (memory_of m i old new e) refl before after, asks_none new after)
 

@@ -11,7 +11,7 @@ use Rattle.unit_segments.specs.declared.stripped.Stripped.{Stripped}
 use Rattle.unit_ledger.specs.declared.outcome.Outcome.{Outcome}
 use Rattle.plain_model.specs.Core.{Core, After, Owed, LimitKind, Reply, Numbers}
 use Rattle.plain_model.specs.Core as core
-use Rattle.plain_model.specs.Begun.{Reading}
+use Rattle.plain_model.specs.Begun.{Reading, begun}
 use Rattle.plain_model.specs.Answered.{answered}
 use Rattle.plain_model.specs.Lost.{accepted, none_left, closed, left}
 use Rattle.session_core.specs.Incoming.{next_of, without_next, with_piece}
@@ -28,11 +28,13 @@ use Rattle.gateway_session.specs.declared.loss.Lent.TheVariants as lent
 use Rattle.gateway_session.specs.declared.loss.LossWhy.{LossWhy}
 use Rattle.gateway_session.specs.declared.loss.LossWhy.TheVariants as why
 use Rattle.gateway_session.specs.declared.loss.ErrorWord.{ErrorWord}
+use Rattle.gateway_session.specs.declared.loss.ErrorWord.TheVariants as word
 use Rattle.gateway_session.specs.declared.held.Held.{Held}
 use Rattle.gateway_session.specs.Session as session
 use Rattle.gateway_session.specs.Session.{Session, is_released, need_ended, need_going, need_by_end, need_by_held, need_by_saying, need_by_work, need_by_talk, need_by_chain, mark_by_talk}
-use Rattle.gateway_session.specs.Told.{with_outcome, end_outcome, owed_outcome}
+use Rattle.gateway_session.specs.Told.{with_outcome, end_outcome, owed_outcome, none_left_outcome}
 use Rattle.gateway_session.specs.Steps.{with_word, with_list, with_after, with_limit, with_accepted, with_answered, with_whole, with_release, with_none_left}
+use Rattle.gateway_session.specs.Steps.{error_of, none_left_word, accept_word, limit_word}
 use Rattle.gateway_session.specs.Steps.{awaits_chain, going_on, going_by, set_out, set_out_on, lost_by_held, begun_by, begin_next, said_by, untried}
 use Rattle.gateway_session.specs.Steps.{after_app, after_said, after_lost, after_app_end, after_lend, after_dialled, after_sent, after_back, after_given}
 use Rattle.gateway_session.specs.Steps.{got_by, back_by, got_on, got_by_talk, talked_on, talked_by, is_attached, passes_limit, dialled_by, sent_by_held, sent_by_talk}
@@ -122,13 +124,14 @@ after_kept : (after : After) (s : Session) → Kept s.held (with_after after s).
 after_kept after s = going_kept (record s { core = after.core })
 
 limit_kept : (which : LimitKind) (s : Session) → Kept s.held (with_limit which s).held
-limit_kept which s = word_kept s.held _ (with_after (closed which s.core) s) (after_kept (closed which s.core) s)
+limit_kept which s = word_kept s.held (Some word.Limit) (with_after (closed which s.core) s) (after_kept (closed which s.core) s)
 
 -- ---- bytes of the application
 
 begun_kept : (reading : Option Reading) (s : Session) → Kept s.held (begun_by reading s).held
 begun_kept None s = kept_as s.held s.held refl
-begun_kept (Some reading) s = word_kept s.held _ (with_after _ s) (after_kept _ s)
+begun_kept (Some reading) s =
+    word_kept s.held (error_of reading) (with_after (begun s.name reading s.core) s) (after_kept (begun s.name reading s.core) s)
 
 begin_kept : (s : Session) → Kept s.held (begin_next s).held
 unfolding begin_next
@@ -187,7 +190,10 @@ rests_none old new e h = h.rest (subst (λ (o : Option Held). rests o ≡ true) 
 
 none_left_kept : (s : Session) → Kept s.held (after_lend lent.NoneLeft s).held
 unfolding after_lend
-none_left_kept s = outcome_kept s.held _ (with_none_left s) (word_kept s.held _ (with_after (none_left s.name s.core) s) (after_kept (none_left s.name s.core) s))
+none_left_kept s =
+    outcome_kept s.held (none_left_outcome s.core.standing.stage s.core.owed) (with_none_left s)
+    (word_kept s.held (Some (none_left_word s.core.standing.stage s.core.owed)) (with_after (none_left s.name s.core) s)
+    (after_kept (none_left s.name s.core) s))
 
 worn_kept : (s : Session) → Kept s.held (after_lend lent.Worn s).held
 unfolding after_lend
@@ -306,11 +312,12 @@ abbrev pub with_talking : ℕ → ℕ → Bool → Talking → Option Held
 with_talking number member released t = Some (record { number = number; member = member; talk = Some t; released = released })
 
 accepted_kept : (s : Session) → Kept s.held (with_accepted s).held
-accepted_kept s = word_kept s.held _ (with_after (accepted s.name s.core) (untried s)) (after_kept (accepted s.name s.core) (untried s))
+accepted_kept s =
+    word_kept s.held (Some (accept_word s.core.owed)) (with_after (accepted s.name s.core) (untried s)) (after_kept (accepted s.name s.core) (untried s))
 
 answered_kept : (r : Stripped) (s : Session) → Kept s.held (with_answered r s).held
 answered_kept r s =
-    word_kept s.held _ (with_list r.list (with_after (answered s.name r s.core) (untried s)))
+    word_kept s.held (limit_word (answered s.name r s.core).core.end) (with_list r.list (with_after (answered s.name r s.core) (untried s)))
     (list_kept s.held r.list (with_after (answered s.name r s.core) (untried s)) (after_kept (answered s.name r s.core) (untried s)))
 
 whole_kept : (r : Stripped) (s : Session) → Kept s.held (with_whole r s).held
@@ -402,8 +409,8 @@ back_feeds true piece (Closes closing) r = kept_none None
 back_feeds false piece (Runs s) r = kept_none s.held
 back_feeds false piece (Closes closing) r = kept_none None
 
-pub record Rests (grip : Grip) (new : Option Held) : Type 0 where
-  pub grip : Follows (grip_of_held new) grip
+pub record Rests (was : Grip) (new : Option Held) : Type 0 where
+  pub grip : Follows (grip_of_held new) was
   pub rest : rests new ≡ true
 
 pub lend_feeds : (memory : Bool) (l : Lent) (state : State) → held_by state ≡ None → Rests (grip_lent l) (held_by (after_feeding memory (Lend l) state))
@@ -521,6 +528,16 @@ without_list_as f old new e = ap (λ (state : State). f (held_by state)) e ∙ a
 
 -- ---- what a run holds, by what its session needs
 
+talk_grip : (number : ℕ) (talk : Option Talking) → is_some talk ≡ true → grip_by_talk number talk ≡ Dialled number
+talk_grip number None t = absurd cc
+talk_grip number (Some t) some = refl
+
+released_talks : (number member : ℕ) (talk : Option Talking) (released : Bool) → released ≡ true
+    → rests (Some (record { number = number; member = member; talk = talk; released = released })) ≡ true → is_some talk ≡ true
+released_talks number member None true r h = absurd cc
+released_talks number member None false r h = absurd cc
+released_talks number member (Some t) released r h = refl
+
 module _ {L : Type 0} where
   undialled_grip : (held : Option Held) (l : Lease L) → IsUndialled held → grip_of_held held ≡ grip_of l → is_granted l ≡ true
   undialled_grip None l n e = absurd n
@@ -530,10 +547,6 @@ module _ {L : Type 0} where
       by lease.Nothing e = absurd cc
       by (lease.Granted grant) e = refl
       by (lease.Dialled grant link) e = absurd cc
-
-  talk_grip : (number : ℕ) (talk : Option Talking) → is_some talk ≡ true → grip_by_talk number talk ≡ Dialled number
-  talk_grip number None t = absurd cc
-  talk_grip number (Some t) some = refl
 
   dialled_lease : (number : ℕ) (l : Lease L) → grip_of l ≡ Dialled number → is_dialled l ≡ true
   dialled_lease number lease.Nothing e = absurd cc
@@ -552,12 +565,6 @@ module _ {L : Type 0} where
 
   pub back_holds : (state : State) (l : Lease L) → need_in state ≡ need.Back → grip_of_held (held_by state) ≡ grip_of l → is_dialled l ≡ true
   back_holds state l n e = talking_grip (held_by state) l (says_in state need.Back n).0 e
-
-  released_talks : (number member : ℕ) (talk : Option Talking) (released : Bool) → released ≡ true
-      → rests (Some (record { number = number; member = member; talk = talk; released = released })) ≡ true → is_some talk ≡ true
-  released_talks number member None true r h = absurd cc
-  released_talks number member None false r h = absurd cc
-  released_talks number member (Some t) released r h = refl
 
   released_grip : (held : Option Held) (l : Lease L) → is_released held ≡ true → rests held ≡ true → grip_of_held held ≡ grip_of l → is_dialled l ≡ true
   released_grip None l r h e = absurd cc

@@ -5,6 +5,7 @@ use Rattle.std.proofs.lemmas.Bool.{lt-ltb}
 use Rattle.link_ends.specs.declared.source.Failed.{Failed}
 use Rattle.link_ends.specs.Counts.{greatest, one_more, counted, Rose}
 use Rattle.link_ends.specs.Link.{LinkState, IsHeard, IsSaid}
+use Rattle.link_ends.specs.Source.{SourceState}
 use Rattle.link_ends.specs.Doors.{DialState}
 use Rattle.transport_pool.specs.Grants.{Resting}
 use Rattle.transport_pool.specs.declared.terms.Terms.{Terms}
@@ -140,7 +141,7 @@ still_there s gone going = by (is_left s.core.end) refl
 -- ---- inputs
 
 closing_left : (c : Closing) → needs_left (need_in (Closes c)) ≡ true → ⊥
-closing_left c h = absurd (let no : ends_left end.NoMemory ≡ true = ended_left end.NoMemory (c.rest ++ c.reply) c.gone h in cc)
+closing_left c h = absurd (let other : ends_left end.NoMemory ≡ true = ended_left end.NoMemory (c.rest ++ c.reply) c.gone h in cc)
 
 closed_left : (c : Closing) (state : State) → state ≡ Closes c → needs_left (need_in state) ≡ true → ⊥
 closed_left c state e h = closing_left c (ap (λ (x : State). needs_left (need_in x)) (sym e) ∙ h)
@@ -148,7 +149,7 @@ closed_left c state e h = closing_left c (ap (λ (x : State). needs_left (need_i
 -- a session that goes on is ended so by its application's end alone
 keeps_there : (i : Input) (s next : Session) → is_app_end i ≡ false → seen next ≡ seen (after_input i s) → is_left next.core.end ≡ true
     → is_left s.core.end ≡ true
-keeps_there i s next no same h = (input_goes i s no).there (ap (λ (x : Seen). is_left x.end) (sym same) ∙ h)
+keeps_there i s next other same h = (input_goes i s other).there (ap (λ (x : Seen). is_left x.end) (sym same) ∙ h)
 
 runs_app_end : (i : Input) (s : Session) → IsGone (Runs s) → is_done (session.need s) ≡ false
     → needs_left (need_in (after_turn true i (Runs s))) ≡ true → is_app_end i ≡ true
@@ -177,8 +178,8 @@ is_fault _ = false
 
 app_end_is : (tried : ℕ) (before : Option core.End) (failed : Bool) → is_left before ≡ false → is_left (Some (end_or before (app_end failed))) ≡ true
     → end_of tried (end_or before (app_end failed)) ≡ end_of tried (app_end failed)
-app_end_is tried None failed no h = refl
-app_end_is tried (Some e) failed no h = absurd (let same : is_left (Some e) ≡ true = h in cc)
+app_end_is tried None failed other h = refl
+app_end_is tried (Some e) failed other h = absurd (let same : is_left (Some e) ≡ true = h in cc)
 
 fault_is : (tried : ℕ) (failed : Bool) → is_fault (end_of tried (app_end failed)) ≡ failed
 fault_is tried true = refl
@@ -239,12 +240,12 @@ tells_nothing : (old now : LinkState) (e : Event) (n : Need) → now ≡ old →
 tells_nothing old now e n same quiet =
     subst (λ (l : LinkState). Tells old l e n) (sym same) (record {
       lasts = lasts_itself old;
-      ended = λ is. absurd (let no : quiet_end e ≡ false = ap quiet_end is in cc);
-      fault = λ is. absurd (let no : quiet_end e ≡ false = ap quiet_end is in cc);
+      ended = λ is. absurd (let other : quiet_end e ≡ false = ap quiet_end is in cc);
+      fault = λ is. absurd (let other : quiet_end e ≡ false = ap quiet_end is in cc);
     })
 
-some_room : {n : ℕ} → 0 < n → nat_lt 0 n ≡ true
-some_room {n} h = lt-ltb 0 n h
+some_room : (n : ℕ) → 0 < n → nat_lt 0 n ≡ true
+some_room n h = lt-ltb 0 n h
 
 one_later : (n : ℕ) → one_more n ≤ one_more (one_more n)
 one_later n = omega arith
@@ -258,9 +259,9 @@ module _ (old now : LinkState) (before bytes : List ℕ) where
   heard_some : (count : ℕ) → IsHeard (Ok count) old now before bytes → 0 < length before → Tells old now (event_heard (Ok count)) need.App
   heard_some zero h room =
       let source = h.read.after in
-      let faults : now.faults ≡ old.faults = ap (λ x. x.faults) source in
-      let ends : now.ends ≡ counted (nat_lt 0 (length before)) old.ends = ap (λ x. x.ends) source in
-      let rises : now.ends ≡ one_more old.ends = ends ∙ ap (λ (b : Bool). counted b old.ends) (some_room room) in
+      let faults : now.faults ≡ old.faults = ap (λ (x : SourceState). x.faults) source in
+      let ends : now.ends ≡ counted (nat_lt 0 (length before)) old.ends = ap (λ (x : SourceState). x.ends) source in
+      let rises : now.ends ≡ one_more old.ends = ends ∙ ap (λ (b : Bool). counted b old.ends) (some_room (length before) room) in
       let stuck : now.stuck ≡ old.stuck = ap (λ (l : LinkState). l.stuck) h.after in
       record {
         lasts = record { faults = omega arith; ends = subst (λ (n : ℕ). one_more old.ends ≤ one_more n) (sym rises) (one_later old.ends); stuck = omega arith };
@@ -269,8 +270,8 @@ module _ (old now : LinkState) (before bytes : List ℕ) where
       }
   heard_some (suc n) h room =
       let source = h.read.after in
-      let faults : now.faults ≡ old.faults = ap (λ x. x.faults) source in
-      let ends : now.ends ≡ old.ends = ap (λ x. x.ends) source in
+      let faults : now.faults ≡ old.faults = ap (λ (x : SourceState). x.faults) source in
+      let ends : now.ends ≡ old.ends = ap (λ (x : SourceState). x.ends) source in
       let stuck : now.stuck ≡ old.stuck = ap (λ (l : LinkState). l.stuck) h.after in
       record {
         lasts = record { faults = omega arith; ends = omega arith; stuck = omega arith };
@@ -301,7 +302,7 @@ module _ (old now : LinkState) (piece : List ℕ) where
       let faults : now.faults ≡ old.faults = ap (λ (l : LinkState). l.faults) h.after in
       let ends : now.ends ≡ old.ends = ap (λ (l : LinkState). l.ends) h.after in
       let stuck : now.stuck ≡ counted (nat_lt 0 (length piece)) old.stuck = ap (λ (l : LinkState). l.stuck) h.after in
-      let rises : now.stuck ≡ one_more old.stuck = stuck ∙ ap (λ (b : Bool). counted b old.stuck) (some_room some) in
+      let rises : now.stuck ≡ one_more old.stuck = stuck ∙ ap (λ (b : Bool). counted b old.stuck) (some_room (length piece) some) in
       record {
         lasts = record { faults = omega arith; ends = omega arith; stuck = subst (λ (n : ℕ). one_more old.stuck ≤ one_more n) (sym rises) (one_later old.stuck) };
         ended = λ is. inr (subst (Rose old.stuck) (sym rises) (rose_once old.stuck));
@@ -527,15 +528,15 @@ record EndedBy (ev : Event) (e : End) (state after : State) : Type 0 where
 ended_event : (m : Bool) (bytes : List ℕ) (ev : Event) (e : End) (state : State) → IsGone state → is_done (need_in state) ≡ false
     → need_in (after_turn m (input_of bytes ev) state) ≡ need.Done e → ends_left e ≡ true → quiet_end ev ≡ false
     → EndedBy ev e state (after_turn m (input_of bytes ev) state)
-ended_event m bytes (event.Take n) e state gone going ended left_so no = absurd cc
-ended_event m bytes (event.End failed) e state gone going ended left_so no =
+ended_event m bytes (event.Take n) e state gone going ended left_so other = absurd cc
+ended_event m bytes (event.End failed) e state gone going ended left_so other =
     let h = ended_by m failed e state gone going ended left_so in record { event = ap event.End (sym h.fault); said = h.said }
-ended_event m bytes (event.Lend lent) e state gone going ended left_so no = absurd cc
-ended_event m bytes (event.Dial reached) e state gone going ended left_so no = absurd cc
-ended_event m bytes (event.Send n failed) e state gone going ended left_so no = absurd cc
-ended_event m bytes (event.Back n failed) e state gone going ended left_so no = absurd cc
-ended_event m bytes event.Give e state gone going ended left_so no = absurd cc
-ended_event m bytes (event.Say n) e state gone going ended left_so no = absurd cc
+ended_event m bytes (event.Lend lent) e state gone going ended left_so other = absurd cc
+ended_event m bytes (event.Dial reached) e state gone going ended left_so other = absurd cc
+ended_event m bytes (event.Send n failed) e state gone going ended left_so other = absurd cc
+ended_event m bytes (event.Back n failed) e state gone going ended left_so other = absurd cc
+ended_event m bytes event.Give e state gone going ended left_so other = absurd cc
+ended_event m bytes (event.Say n) e state gone going ended left_so other = absurd cc
 
 left_event : (m : Bool) (bytes : List ℕ) (ev : Event) (e : End) (state : State) → IsGone state → is_done (need_in state) ≡ false
     → need_in (after_turn m (input_of bytes ev) state) ≡ need.Done e → ends_left e ≡ true
@@ -578,14 +579,14 @@ pub new_app : (state : State) → IsNew state → need_in state ≡ need.App
 new_app state new = ap need_in new.is ∙ new_needs new.id new.name
 
 pub left_never : (l : LinkState) (state : State) → need_in state ≡ need.App → LeftBy l l state
-left_never l state h = record { left = λ e. absurd (let no : need.App ≡ need.Done end.AppEnded = sym h ∙ e in cc);
-  fault = λ e. absurd (let no : need.App ≡ need.Done end.AppFault = sym h ∙ e in cc) }
+left_never l state h = record { left = λ e. absurd (let other : need.App ≡ need.Done end.AppEnded = sym h ∙ e in cc);
+  fault = λ e. absurd (let other : need.App ≡ need.Done end.AppFault = sym h ∙ e in cc) }
 
 -- ---- that the application has gone stays
 
 gone_runs : (i : Input) (s next : Session) → is_app_end i ≡ false → seen next ≡ seen (after_input i s) → IsGone (Runs s) → IsGone (Runs next)
-gone_runs i s next no same gone = λ h.
-  ap (λ (x : Seen). x.gone) same ∙ (input_goes i s no).gone ∙ gone (keeps_there i s next no same h)
+gone_runs i s next other same gone = λ h.
+  ap (λ (x : Seen). x.gone) same ∙ (input_goes i s other).gone ∙ gone (keeps_there i s next other same h)
 
 gone_app : (i : Input) (s next : Session) → is_app_end i ≡ true → seen next ≡ seen (after_input i s) → IsGone (Runs next)
 gone_app (App piece) s next yes same = absurd cc

@@ -5,5 +5,5 @@ pub mod Gripping
 pub mod Saying
 pub mod Telling
 pub mod Lasting
-pub mod Serving
+pub mod Ending
 pub mod Told

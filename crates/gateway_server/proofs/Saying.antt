@@ -22,10 +22,12 @@ use Rattle.gateway_session.specs.declared.loss.Lent.TheVariants as lent
 use Rattle.gateway_session.specs.declared.loss.LossWhy.{LossWhy}
 use Rattle.gateway_session.specs.declared.loss.LossWhy.TheVariants as why
 use Rattle.gateway_session.specs.declared.loss.ErrorWord.{ErrorWord}
+use Rattle.gateway_session.specs.declared.loss.ErrorWord.TheVariants as word
 use Rattle.gateway_session.specs.declared.held.Held.{Held}
 use Rattle.gateway_session.specs.Session.{Session}
-use Rattle.gateway_session.specs.Told.{with_outcome, end_outcome, owed_outcome}
+use Rattle.gateway_session.specs.Told.{with_outcome, end_outcome, owed_outcome, none_left_outcome}
 use Rattle.gateway_session.specs.Steps.{with_word, with_list, with_after, with_limit, with_accepted, with_answered, with_whole, with_release, with_none_left}
+use Rattle.gateway_session.specs.Steps.{error_of, none_left_word, accept_word, limit_word}
 use Rattle.gateway_session.specs.Steps.{awaits_chain, going_on, going_by, lost_by_held, begun_by, begin_next, said_by, untried, with_sent}
 use Rattle.gateway_session.specs.Steps.{after_app, after_said, after_lost, after_app_end, after_lend, after_dialled, after_sent, after_back, after_given}
 use Rattle.gateway_session.specs.Steps.{got_by, back_by, got_on, talked_on, passes_limit, dialled_by, sent_by_held, sent_by_talk}
@@ -161,14 +163,15 @@ listed old None s h = h
 listed old (Some list) s h = h
 
 limited : (which : LimitKind) (s : Session) → Goes (seen s) (seen (with_limit which s))
-limited which s = worded (seen s) _ (with_after (closed which s.core) s) (evented (closed which s.core) s (closed_left which s.core))
+limited which s = worded (seen s) (Some word.Limit) (with_after (closed which s.core) s) (evented (closed which s.core) s (closed_left which s.core))
 
 -- ---- bytes of the application
 
 begun_reading : (reading : Option Reading) (s : Session) → Goes (seen s) (seen (begun_by reading s))
 begun_reading None s = stays (seen s)
 begun_reading (Some reading) s =
-    worded (seen s) _ (with_after (begun s.name reading s.core) s) (evented (begun s.name reading s.core) s (begun_left s.name reading s.core))
+    worded (seen s) (error_of reading) (with_after (begun s.name reading s.core) s)
+    (evented (begun s.name reading s.core) s (begun_left s.name reading s.core))
 
 beginning : (s : Session) → Goes (seen s) (seen (begin_next s))
 unfolding begin_next
@@ -199,8 +202,9 @@ lending (lent.Idle number member) s = stays (seen s)
 lending (lent.Dial number member) s = stays (seen s)
 lending lent.Queue s = stays (seen s)
 lending lent.NoneLeft s =
-    outcomed (seen s) _ (with_none_left s)
-    (worded (seen s) _ (with_after (none_left s.name s.core) s) (evented (none_left s.name s.core) s (none_left_left s.name s.core)))
+    outcomed (seen s) (none_left_outcome s.core.standing.stage s.core.owed) (with_none_left s)
+    (worded (seen s) (Some (none_left_word s.core.standing.stage s.core.owed)) (with_after (none_left s.name s.core) s)
+    (evented (none_left s.name s.core) s (none_left_left s.name s.core)))
 lending lent.Worn s = limited Numbers s
 
 dialled_on : (held : Option Held) (s : Session) → Goes (seen s) (seen (dialled_by held s))
@@ -238,11 +242,12 @@ sending count s =
 
 accepting : (s : Session) → Goes (seen s) (seen (with_accepted s))
 accepting s =
-    worded (seen s) _ (with_after (accepted s.name s.core) (untried s)) (evented (accepted s.name s.core) (untried s) (accepted_left s.name s.core))
+    worded (seen s) (Some (accept_word s.core.owed)) (with_after (accepted s.name s.core) (untried s))
+    (evented (accepted s.name s.core) (untried s) (accepted_left s.name s.core))
 
 answering : (r : Stripped) (s : Session) → Goes (seen s) (seen (with_answered r s))
 answering r s =
-    worded (seen s) _ (with_list r.list (with_after (answered s.name r s.core) (untried s)))
+    worded (seen s) (limit_word (answered s.name r s.core).core.end) (with_list r.list (with_after (answered s.name r s.core) (untried s)))
     (listed (seen s) r.list (with_after (answered s.name r s.core) (untried s))
     (evented (answered s.name r s.core) (untried s) (answered_left s.name r s.core)))
 
@@ -288,15 +293,15 @@ is_app_end (AppEnd failed) = true
 is_app_end _ = false
 
 pub input_goes : (i : Input) (s : Session) → is_app_end i ≡ false → Goes (record (seen s) { to_say = unsaid i s }) (seen (after_input i s))
-input_goes (App piece) s no = apping piece s
-input_goes (Lend l) s no = lending l s
-input_goes (Dialled reached) s no = dialling reached s
-input_goes (Sent count) s no = sending count s
-input_goes (Back piece) s no = backing piece s
-input_goes Given s no = giving s
-input_goes (Said count) s no = saying count s
-input_goes (Lose reason) s no = losing reason s
-input_goes (AppEnd failed) s no = absurd cc
+input_goes (App piece) s other = apping piece s
+input_goes (Lend l) s other = lending l s
+input_goes (Dialled reached) s other = dialling reached s
+input_goes (Sent count) s other = sending count s
+input_goes (Back piece) s other = backing piece s
+input_goes Given s other = giving s
+input_goes (Said count) s other = saying count s
+input_goes (Lose reason) s other = losing reason s
+input_goes (AppEnd failed) s other = absurd cc
 
 -- the application's end leaves what is to be said
 lost_says : (reason : LossWhy) (held : Option Held) (s : Session) → (lost_by_held reason held s).to_say ≡ s.to_say
@@ -309,7 +314,7 @@ lost_ends reason None s = refl
 lost_ends reason (Some held) s = lost_end s.core
 
 pub app_end_ends : (failed : Bool) (s : Session) → (after_app_end failed s).core.end ≡ Some (end_or s.core.end (app_end failed))
-unfolding after_app_end, after_lost, left
+unfolding after_app_end after_lost left
 app_end_ends failed s = ap (λ (e : Option core.End). Some (end_or e (app_end failed))) (lost_ends why.Left s.held s)
 
 pub app_end_gone : (failed : Bool) (s : Session) → (after_app_end failed s).gone ≡ true
@@ -317,11 +322,11 @@ unfolding after_app_end
 app_end_gone failed s = refl
 
 pub app_end_says : (failed : Bool) (s : Session) → (after_app_end failed s).to_say ≡ s.to_say
-unfolding after_app_end, after_lost
+unfolding after_app_end after_lost
 app_end_says failed s = lost_says why.Left s.held s
 
 -- what an input adds, behind what wasn't said
-pub added_behind : (i : Input) (s : Session) → (more : List ℕ) × (after_input i s).to_say ≡ unsaid i s ++ more
+pub added_behind : (i : Input) (s : Session) → (more : List ℕ) × ((after_input i s).to_say ≡ unsaid i s ++ more)
 added_behind (App piece) s = (let h = apping piece s in (h.more, h.says))
 added_behind (Lend l) s = (let h = lending l s in (h.more, h.says))
 added_behind (Dialled reached) s = (let h = dialling reached s in (h.more, h.says))

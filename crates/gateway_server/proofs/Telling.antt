@@ -165,5 +165,5 @@ without_reply (t ∷ others) s found = by t.memory found
         let step = goes_on t.input s in
         ap (λ (state : State). memory_by others state) step.is
         ∙ without_reply others step.next (ap (λ (state : State). finds_memory (after_all others state)) (sym step.is) ∙ found)
-    by false found = absurd (let no : finds_memory (after_all others (after_turn false t.input (Runs s))) ≡ false =
+    by false found = absurd (let other : finds_memory (after_all others (after_turn false t.input (Runs s))) ≡ false =
         ap (λ (state : State). finds_memory (after_all others state)) (stops t.input s) ∙ closing_stays others (closing_with (unsaid t.input s) s) in cc)

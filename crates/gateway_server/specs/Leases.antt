@@ -74,6 +74,12 @@ module _ {L : Type 0} where
   is_dialled (lease.Dialled grant link) = true
   is_dialled _ = false
 
+  -- the right to it
+  abbrev pub grant_in : Lease L → Option Granted
+  grant_in lease.Nothing = None
+  grant_in (lease.Granted grant) = Some grant
+  grant_in (lease.Dialled grant link) = Some grant
+
   -- what is held after a lend
   abbrev pub lease_of : Lend L → Lease L
   lease_of (lend.Idle transport) = lease.Dialled transport.grant transport.link

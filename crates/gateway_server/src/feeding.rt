@@ -1,5 +1,5 @@
 //! The inputs of a session. Each answers whether the session found its memory.
-ghost use Rattle.std.specs.Prelude.{◌≡◌, ◌≤◌, ◌≢◌, None, true, length};
+ghost use Rattle.std.specs.Prelude.{◌≡◌, ◌≤◌, ◌≢◌, None, true, false, length};
 ghost use Rattle.gateway_session.specs.declared.need.Need.TheVariants.{App, Lend, Dial, Send, Back, Give, Say};
 ghost use Rattle.gateway_session.specs.Members.{LendsMember};
 ghost use Rattle.gateway_session.specs.Memory.{need_in, to_send_in, to_say_in, held_in};

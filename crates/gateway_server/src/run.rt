@@ -1,5 +1,5 @@
 //! Runs: a session over its links. Only a turn changes a run, and only a run that is done makes a `Done`.
-ghost use Rattle.std.specs.Prelude.{◌≡◌, true, vec_len};
+ghost use Rattle.std.specs.Prelude.{◌≡◌, true, false, vec_len};
 ghost use Rattle.gateway_server.specs.Leases.{grip_in, grip_of, rests_in};
 ghost use Rattle.gateway_server.specs.Dialling.{AsksDial};
 ghost use Rattle.gateway_server.specs.Leaving.{is_gone};
@@ -172,8 +172,8 @@ impl<A: Link, N: Dial, D: Lender<L = N::L>> Run<A, N, D> {
     /// The parts of a run whose session has ended.
     pub fn into_parts(self) -> (Done<A>, D, N)
         requires { is_done (need_in self.session) ≡ true }
-        ensures done { (result.0.link ≡ self.entry.app) × (Need.Done result.0.end ≡ need_in self.entry.session) }
-        ensures ends { (result.1 ≡ self.entry.lender) × (result.2 ≡ self.entry.dial) }
+        ensures done { (result.0.link ≡ self.app) × (Need.Done result.0.end ≡ need_in self.session) }
+        ensures ends { (result.1 ≡ self.lender) × (result.2 ≡ self.dial) }
     {
         let Run {
             session,

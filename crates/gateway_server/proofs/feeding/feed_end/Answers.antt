@@ -6,12 +6,12 @@ use Rattle.gateway_server.proofs.Feeds.{fed_has}
 use Rattle.gateway_server.proofs.Gripping.{Kept, end_feeds}
 use Rattle.gateway_server.proofs.feeding.feed_end.Goals as goal
 
-kept : (g : _) (c : goal.Returns g) → Kept (held_by c.args.session.now) (held_by c.on_app_end.new.self)
-kept g c =
+kept : (c : goal.After-on_app_end) → Kept (held_by c.args.session.now) (held_by c.on_app_end.new.self)
+kept c =
     subst (λ state. Kept (held_by c.args.session.now) (held_by state)) (sym c.on_app_end.ensures) (end_feeds true c.args.failed c.args.session.now)
 
 pub returns-clause-grip : goal.returns-clause-grip
-returns-clause-grip g c = (kept g c).grip
+returns-clause-grip c = (kept c).grip
 
 pub returns-clause-rests : goal.returns-clause-rests
-returns-clause-rests g c = (kept g c).rest c.requires
+returns-clause-rests c = (kept c).rest c.requires.rests

@@ -8,19 +8,19 @@ use Rattle.gateway_server.proofs.Dialling.{lend_asks}
 use Rattle.gateway_server.proofs.Gripping.{Rests, lend_feeds, says_in}
 use Rattle.gateway_server.proofs.feeding.feed_lend.Goals as goal
 
-after : (g : _) (c : goal.Returns g) → Rests (grip_lent c.args.lent) (held_by c.on_lend.new.self)
-after g c =
+after : (c : goal.After-is_ok) → Rests (grip_lent c.args.lent) (held_by c.on_lend.new.self)
+after c =
     fed_has (λ state. Rests (grip_lent c.args.lent) (held_by state)) c.on_lend.result (Input.Lend c.args.lent) c.args.session.now c.on_lend.new.self
     c.on_lend.ensures.ok c.on_lend.ensures.memory (λ memory. lend_feeds memory c.args.lent c.args.session.now (says_in c.args.session.now _ c.requires.need))
 
 pub returns-clause-grip : goal.returns-clause-grip
-returns-clause-grip g c = (after g c).grip
+returns-clause-grip c = (after c).grip
 
 pub returns-clause-rests : goal.returns-clause-rests
-returns-clause-rests g c = (after g c).rest
+returns-clause-rests c = (after c).rest
 
 pub returns-clause-lent : goal.returns-clause-lent
-returns-clause-lent g c =
+returns-clause-lent c =
     fed_has (λ state. AfterLend c.args.lent state) c.on_lend.result (Input.Lend c.args.lent) c.args.session.now c.on_lend.new.self c.on_lend.ensures.ok
     c.on_lend.ensures.memory
     (λ memory. lend_asks memory c.args.lent c.args.session.now c.requires.need

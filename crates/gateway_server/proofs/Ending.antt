@@ -39,8 +39,8 @@ closing_memory (byte ∷ bytes) true e h = sym (ap memory_needed h)
 closing_memory (byte ∷ bytes) false e h = absurd cc
 
 done_found : (state : State) (e : End) → need_in state ≡ need.Done e → is_memory e ≡ false → finds_memory state ≡ true
-done_found (Runs s) e h no = refl
-done_found (Closes c) e h no = absurd (let yes : is_memory e ≡ true = closing_memory (c.rest ++ c.reply) c.gone e h in cc)
+done_found (Runs s) e h other = refl
+done_found (Closes c) e h other = absurd (let yes : is_memory e ≡ true = closing_memory (c.rest ++ c.reply) c.gone e h in cc)
 
 -- ---- a session from its first turn
 
@@ -52,8 +52,8 @@ module _ (turns : List Fed) (old new : State) (e : End) (is_new : IsNew old) (af
       (all_told turns (uncounted (new_session is_new.id is_new.name)))
 
   no_reply : is_memory e ≡ false → memory_by turns old ≡ []
-  no_reply no =
-      let found : finds_memory (after_all turns old) ≡ true = ap finds_memory (sym after) ∙ done_found new e done no in
+  no_reply other =
+      let found : finds_memory (after_all turns old) ≡ true = ap finds_memory (sym after) ∙ done_found new e done other in
       subst (λ (state : State). finds_memory (after_all turns state) ≡ true → memory_by turns state ≡ []) (sym is_new.is)
       (without_reply turns (uncounted (new_session is_new.id is_new.name))) found
 
@@ -62,17 +62,17 @@ module _ (turns : List Fed) (old new : State) (e : End) (is_new : IsNew old) (af
 
   -- where nothing is left to be said
   whole : left_in new ≡ [] → is_memory e ≡ false → said_by turns old ≡ out_by turns old
-  whole none no =
+  whole none other =
       sym (append-nil (said_by turns old))
       ∙ ap (λ (bytes : List ℕ). said_by turns old ++ bytes) (sym none)
       ∙ told_all
-      ∙ ap (λ (bytes : List ℕ). out_by turns old ++ bytes) (no_reply no)
+      ∙ ap (λ (bytes : List ℕ). out_by turns old ++ bytes) (no_reply other)
       ∙ append-nil (out_by turns old)
 
   at_once : (was now : LinkState) → is_memory e ≡ false → (Rose was.ends now.ends × (left_in new ≡ [])) ⊎ Rose was.stuck now.stuck
       → EndsAtOnce was now (said_by turns old) (out_by turns old)
-  at_once was now no (inl x) = inl (x.0, whole x.1 no)
-  at_once was now no (inr x) = inr x
+  at_once was now other (inl x) = inl (x.0, whole x.1 other)
+  at_once was now other (inr x) = inr x
 
   pub cause : (was now : LinkState) → LeftBy was now new → EndsBy e was now (said_by turns old) (out_by turns old)
   cause was now left = record {
@@ -109,5 +109,5 @@ dials_as_lent e calls calls' dials dials' old new b is_new asks done =
     let after : pending_in new ≡ 0 = done_pending new e asks done in
     record {
       most = λ x y. (let p = b.most x y in omega (arith, p, before, after));
-      all = λ no x y. (let p = b.most x y in let q = b.all (done_found new e done no) x y in omega (arith, p, q, before, after));
+      all = λ other x y. (let p = b.most x y in let q = b.all (done_found new e done other) x y in omega (arith, p, q, before, after));
     }
