@@ -20,6 +20,7 @@ use Rattle.gateway_server.specs.declared.lease.Lease.TheVariants as leases
 use Rattle.gateway_server.specs.Leases as lease
 use Rattle.gateway_server.specs.Leases.{Grip, Free, Allowed, Follows, grip_in, grip_of, grip_lent, grip_of_held, granted_in}
 use Rattle.gateway_server.proofs.Gripping.{says_in}
+use Rattle.gateway_server.proofs.Unasked.{list_needs}
 use Rattle.gateway_server.specs.Dialling.{pending, pending_in, AsksDial, finds_memory, AfterLend, Counted, counted, Balanced}
 
 abbrev pub is_dial : Need → Bool
@@ -150,23 +151,6 @@ lend_asks m lent.NoneLeft state e f = others_lent lent.NoneLeft (after_feeding m
 lend_asks m lent.Worn state e f = others_lent lent.Worn (after_feeding m (Lend lent.Worn) state) refl f
 
 -- ---- a list that is asked for changes nothing of it
-
--- a session that was asked for its list
-abbrev unlisted : Session → Session
-unlisted s = record s { unasked = record s.unasked { list = None } }
-
-list_saying : (bytes : List ℕ) (s : Session) → need_by_saying bytes (unlisted s) ≡ need_by_saying bytes s
-list_saying [] s = refl
-list_saying (byte ∷ bytes) s = refl
-
-list_end : (end : Option core.End) (s : Session) → need_by_end end (unlisted s) ≡ need_by_end end s
-list_end None s = ap (λ (n : Need). cond (is_released s.held) need.Give n) (list_saying s.to_say s)
-list_end (Some end) s = refl
-
-pub list_needs : (state : State) → need_in (without_list state) ≡ need_in state
-unfolding session.need
-list_needs (Runs s) = list_end s.core.end s
-list_needs (Closes closing) = refl
 
 pub list_memory : (state : State) → finds_memory (without_list state) ≡ finds_memory state
 list_memory (Runs s) = refl

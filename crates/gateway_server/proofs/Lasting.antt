@@ -39,7 +39,7 @@ use Rattle.gateway_server.specs.Served.{IsNew}
 use Rattle.gateway_server.specs.Lasting.{Lasts, LeftBy}
 use Rattle.gateway_server.proofs.Saying.{Seen, seen, is_app_end, input_goes, app_end_says, app_end_ends, app_end_gone}
 use Rattle.gateway_server.proofs.Telling.{goes_on, stops, closes_on}
-use Rattle.gateway_server.proofs.Dialling.{list_needs}
+use Rattle.gateway_server.proofs.Unasked.{list_needs}
 
 -- ---- a session that its application ended
 

@@ -7,3 +7,4 @@ pub mod Telling
 pub mod Lasting
 pub mod Ending
 pub mod Told
+pub mod Unasked

@@ -28,8 +28,9 @@ pub fn serve_session<R: Wait, A: Link, N: Dial, D: Lender<L = N::L>>(
     ensures dials { DialsAsLent result (N.state run.old.dial).calls (N.state run.new.dial).calls (D.dials run.old.lender) (D.dials run.new.lender) }
 {
     for _ in rt.forever() {
-        if let Step::Ended(end) = run.turn() {
-            return end;
+        match run.turn() {
+            Step::Went(_) => (),
+            Step::Ended(end) => return end,
         }
     }
     unreachable!()
