@@ -48,7 +48,10 @@ fn into_grant<L: Drop>(lease: Lease<L>) -> Option<Grant>
     match lease {
         Lease::Nothing => None,
         Lease::Granted(grant) => Some(grant),
-        Lease::Dialled(grant, _) => Some(grant),
+        Lease::Dialled(grant, link) => {
+            drop(link);
+            Some(grant)
+        }
     }
 }
 

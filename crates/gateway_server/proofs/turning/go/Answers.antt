@@ -1,7 +1,12 @@
 use Rattle.std.proofs.Common.{◌≡◌, ◌∙◌, sym, ap, subst}
 use Rattle.gateway_session.specs.Memory.{State, held_in, list_in, without_list}
 use Rattle.gateway_server.specs.Turned.{Lost, Learned}
+use Rattle.gateway_server.proofs.Dialling.{asks_after}
 use Rattle.gateway_server.proofs.turning.go.Goals as goal
+
+pub returns-clause-asks : goal.returns-clause-asks
+returns-clause-asks g c =
+    asks_after c.call_needed-event.new.session c.learn.new.session c.call_needed-event.ensures.asks c.learn.ensures.session
 
 pub returns-clause-call : goal.returns-clause-call
 returns-clause-call g c = (c.call_needed-event.result.memory, record {
