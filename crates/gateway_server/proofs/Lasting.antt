@@ -1,7 +1,8 @@
 -- Where a session's application ends it, the counts of its link tell it.
-use Rattle.std.proofs.Common.{◌≡◌, ◌<◌, ◌≤◌, ◌⊎◌, inl, inr, ℕ, zero, suc, ◌==◌, Bool, true, false, not, ◌||◌, cond, List, [], ◌∷◌, ◌++◌, length, nat_lt, Option, Some, None, Result, Ok, Err}
+use Rattle.std.proofs.Common.{◌≡◌, ◌<◌, ◌≤◌, ◌⊎◌, inl, inr, ℕ, zero, suc, ◌==◌, Bool, true, false, not, ◌||◌, cond, List, [], ◌∷◌, ◌++◌, length, nat_lt, nat_eq, ◌&&◌, Option, Some, None, Result, Ok, Err}
 use Rattle.std.proofs.Common.{min, refl, sym, ap, subst, ◌∙◌, arith}
 use Rattle.std.proofs.lemmas.Bool.{lt-ltb}
+use Rattle.std.proofs.lemmas.Bool.Decides.{nat_tests}
 use Rattle.link_ends.specs.declared.source.Failed.{Failed}
 use Rattle.link_ends.specs.Counts.{greatest, one_more, counted, Rose}
 use Rattle.link_ends.specs.Link.{LinkState, IsHeard, IsSaid}
@@ -185,7 +186,7 @@ fault_is : (tried : ℕ) (failed : Bool) → is_fault (end_of tried (app_end fai
 fault_is tried true = refl
 fault_is tried false = refl
 
-needed_end : Need → End
+abbrev needed_end : Need → End
 needed_end (need.Done e) = e
 needed_end _ = end.NoMemory
 
@@ -232,7 +233,7 @@ pub record Tells (old now : LinkState) (e : Event) (n : Need) : Type 0 where
 lasts_itself : (l : LinkState) → Lasts l l
 lasts_itself l = record { faults = omega arith; ends = omega arith; stuck = omega arith }
 
-quiet_end : Event → Bool
+abbrev quiet_end : Event → Bool
 quiet_end (event.End failed) = false
 quiet_end _ = true
 
@@ -256,7 +257,7 @@ rose_once n = record { reached = omega arith }
 -- a read of the application's link
 
 module _ (old now : LinkState) (before bytes : List ℕ) where
-  heard_some : (count : ℕ) → IsHeard (Ok count) old now before bytes → 0 < length before → Tells old now (event_heard (Ok count)) need.App
+  heard_some : (count : ℕ) → IsHeard (Ok count) old now before bytes → 0 < length before → Tells old now (event_heard {F = Failed} (Ok count)) need.App
   heard_some zero h room =
       let source = h.read.after in
       let faults : now.faults ≡ old.faults = ap (λ (x : SourceState). x.faults) source in
@@ -270,8 +271,10 @@ module _ (old now : LinkState) (before bytes : List ℕ) where
       }
   heard_some (suc n) h room =
       let source = h.read.after in
+      let some : nat_eq (suc n) 0 ≡ false = grind (arith, nat_tests) in
       let faults : now.faults ≡ old.faults = ap (λ (x : SourceState). x.faults) source in
-      let ends : now.ends ≡ old.ends = ap (λ (x : SourceState). x.ends) source in
+      let ends : now.ends ≡ old.ends =
+      ap (λ (x : SourceState). x.ends) source ∙ ap (λ (b : Bool). counted (b && nat_lt 0 (length before)) old.ends) some in
       let stuck : now.stuck ≡ old.stuck = ap (λ (l : LinkState). l.stuck) h.after in
       record {
         lasts = record { faults = omega arith; ends = omega arith; stuck = omega arith };
@@ -279,7 +282,7 @@ module _ (old now : LinkState) (before bytes : List ℕ) where
         fault = λ is. absurd cc;
       }
 
-  heard_none : (failed : Failed) → IsHeard (Err failed) old now before bytes → Tells old now (event_heard (Err failed)) need.App
+  heard_none : (failed : Failed) → IsHeard (Err failed) old now before bytes → Tells old now (event_heard {F = Failed} (Err failed)) need.App
   heard_none failed h =
       let faults : now.faults ≡ one_more old.faults = ap (λ (l : LinkState). l.faults) h.after in
       let ends : now.ends ≡ old.ends = ap (λ (l : LinkState). l.ends) h.after in
@@ -297,7 +300,7 @@ module _ (old now : LinkState) (before bytes : List ℕ) where
 -- a write to it
 
 module _ (old now : LinkState) (piece : List ℕ) where
-  said_some : (count : ℕ) → IsSaid (Ok count) old now piece → 0 < length piece → Tells old now (event_said (Ok count)) need.Say
+  said_some : (count : ℕ) → IsSaid (Ok count) old now piece → 0 < length piece → Tells old now (event_said {F = Failed} (Ok count)) need.Say
   said_some zero h some =
       let faults : now.faults ≡ old.faults = ap (λ (l : LinkState). l.faults) h.after in
       let ends : now.ends ≡ old.ends = ap (λ (l : LinkState). l.ends) h.after in
@@ -309,16 +312,18 @@ module _ (old now : LinkState) (piece : List ℕ) where
         fault = λ is. absurd cc;
       }
   said_some (suc n) h some =
+      let moved : nat_eq (suc n) 0 ≡ false = grind (arith, nat_tests) in
       let faults : now.faults ≡ old.faults = ap (λ (l : LinkState). l.faults) h.after in
       let ends : now.ends ≡ old.ends = ap (λ (l : LinkState). l.ends) h.after in
-      let stuck : now.stuck ≡ old.stuck = ap (λ (l : LinkState). l.stuck) h.after in
+      let stuck : now.stuck ≡ old.stuck =
+      ap (λ (l : LinkState). l.stuck) h.after ∙ ap (λ (b : Bool). counted (b && nat_lt 0 (length piece)) old.stuck) moved in
       record {
         lasts = record { faults = omega arith; ends = omega arith; stuck = omega arith };
         ended = λ is. absurd cc;
         fault = λ is. absurd cc;
       }
 
-  said_none : (failed : Failed) → IsSaid (Err failed) old now piece → Tells old now (event_said (Err failed)) need.Say
+  said_none : (failed : Failed) → IsSaid (Err failed) old now piece → Tells old now (event_said {F = Failed} (Err failed)) need.Say
   said_none failed h =
       let faults : now.faults ≡ one_more old.faults = ap (λ (l : LinkState). l.faults) h.after in
       let ends : now.ends ≡ old.ends = ap (λ (l : LinkState). l.ends) h.after in
@@ -525,18 +530,26 @@ record EndedBy (ev : Event) (e : End) (state after : State) : Type 0 where
   pub event : ev ≡ event.End (is_fault e)
   pub said : need_in state ≡ need.App → left_in after ≡ []
 
+end_is : (ev : Event) → quiet_end ev ≡ false → (failed : Bool) × (ev ≡ event.End failed)
+end_is (event.Take n) other = absurd cc
+end_is (event.End failed) other = (failed, refl)
+end_is (event.Lend lent) other = absurd cc
+end_is (event.Dial reached) other = absurd cc
+end_is (event.Send n failed) other = absurd cc
+end_is (event.Back n failed) other = absurd cc
+end_is event.Give other = absurd cc
+end_is (event.Say n) other = absurd cc
+
 ended_event : (m : Bool) (bytes : List ℕ) (ev : Event) (e : End) (state : State) → IsGone state → is_done (need_in state) ≡ false
     → need_in (after_turn m (input_of bytes ev) state) ≡ need.Done e → ends_left e ≡ true → quiet_end ev ≡ false
     → EndedBy ev e state (after_turn m (input_of bytes ev) state)
-ended_event m bytes (event.Take n) e state gone going ended left_so other = absurd cc
-ended_event m bytes (event.End failed) e state gone going ended left_so other =
-    let h = ended_by m failed e state gone going ended left_so in record { event = ap event.End (sym h.fault); said = h.said }
-ended_event m bytes (event.Lend lent) e state gone going ended left_so other = absurd cc
-ended_event m bytes (event.Dial reached) e state gone going ended left_so other = absurd cc
-ended_event m bytes (event.Send n failed) e state gone going ended left_so other = absurd cc
-ended_event m bytes (event.Back n failed) e state gone going ended left_so other = absurd cc
-ended_event m bytes event.Give e state gone going ended left_so other = absurd cc
-ended_event m bytes (event.Say n) e state gone going ended left_so other = absurd cc
+ended_event m bytes ev e state gone going ended left_so other =
+    let x = end_is ev other in
+    subst (λ (o : Event). need_in (after_turn m (input_of bytes o) state) ≡ need.Done e → EndedBy o e state (after_turn m (input_of bytes o) state))
+    (sym x.1) (λ h. by x.0 (ended_by m x.0 e state gone going h left_so)) ended
+  where
+    by : (failed : Bool) → Ended failed e state (after_turn m (AppEnd failed) state) → EndedBy (event.End failed) e state (after_turn m (AppEnd failed) state)
+    by failed h = record { event = ap event.End (sym h.fault); said = h.said }
 
 left_event : (m : Bool) (bytes : List ℕ) (ev : Event) (e : End) (state : State) → IsGone state → is_done (need_in state) ≡ false
     → need_in (after_turn m (input_of bytes ev) state) ≡ need.Done e → ends_left e ≡ true
@@ -589,15 +602,15 @@ gone_runs i s next other same gone = λ h.
   ap (λ (x : Seen). x.gone) same ∙ (input_goes i s other).gone ∙ gone (keeps_there i s next other same h)
 
 gone_app : (i : Input) (s next : Session) → is_app_end i ≡ true → seen next ≡ seen (after_input i s) → IsGone (Runs next)
-gone_app (App piece) s next yes same = absurd cc
-gone_app (Lend l) s next yes same = absurd cc
-gone_app (Dialled reached) s next yes same = absurd cc
-gone_app (Sent count) s next yes same = absurd cc
-gone_app (Back piece) s next yes same = absurd cc
-gone_app Given s next yes same = absurd cc
-gone_app (Said count) s next yes same = absurd cc
-gone_app (Lose reason) s next yes same = absurd cc
-gone_app (AppEnd failed) s next yes same = λ h. ap (λ (x : Seen). x.gone) same ∙ app_end_gone failed s
+gone_app (App piece) s next ends same = absurd cc
+gone_app (Lend l) s next ends same = absurd cc
+gone_app (Dialled reached) s next ends same = absurd cc
+gone_app (Sent count) s next ends same = absurd cc
+gone_app (Back piece) s next ends same = absurd cc
+gone_app Given s next ends same = absurd cc
+gone_app (Said count) s next ends same = absurd cc
+gone_app (Lose reason) s next ends same = absurd cc
+gone_app (AppEnd failed) s next ends same = λ h. ap (λ (x : Seen). x.gone) same ∙ app_end_gone failed s
 
 gone_on : (i : Input) (s next : Session) → seen next ≡ seen (after_input i s) → IsGone (Runs s) → IsGone (Runs next)
 gone_on i s next same gone = by (is_app_end i) refl

@@ -120,32 +120,34 @@ closing_told (t ∷ others) c =
 abbrev due_on : List Fed → State → List ℕ
 due_on turns state = out_by turns state ++ memory_by turns state
 
+-- one turn, and then the others
+one_told : (m : Bool) (i : Input) (others : List Fed) (s : Session)
+    → ((next : Session) → told_on others (Runs next) ≡ next.to_say ++ due_on others (Runs next))
+    → bytes_said i (Runs s) ++ told_on others (after_turn m i (Runs s))
+    ≡ s.to_say ++ (added_out m i s (out_by others (after_turn m i (Runs s))) ++ reply_out m s (memory_by others (after_turn m i (Runs s))))
+one_told true i others s then_told =
+    let step = goes_on i s in
+    let front = bytes_said i (Runs s) in
+    let due : List ℕ = due_on others (Runs step.next) in
+    ap (λ (state : State). front ++ told_on others state) step.is
+    ∙ ap (λ (bytes : List ℕ). front ++ bytes) (then_told step.next)
+    ∙ ap (λ (bytes : List ℕ). front ++ (bytes ++ due)) (ap (λ (x : Seen). x.to_say) step.same ∙ added_is i s)
+    ∙ ap (λ (bytes : List ℕ). front ++ bytes) (append_assoc (unsaid i s) (added i s) due)
+    ∙ sym (append_assoc front (unsaid i s) (added i s ++ due))
+    ∙ ap (λ (bytes : List ℕ). bytes ++ (added i s ++ due)) (said_behind i s)
+    ∙ ap (λ (bytes : List ℕ). s.to_say ++ bytes)
+    (sym (append_assoc (added i s) (out_by others (Runs step.next)) (memory_by others (Runs step.next)))
+    ∙ ap (λ (state : State). (added i s ++ out_by others state) ++ memory_by others state) (sym step.is))
+one_told false i others s then_told =
+    let reply = memory_reply (first_number s.core) in
+    ap (λ (state : State). bytes_said i (Runs s) ++ told_on others state) (stops i s)
+    ∙ ap (λ (bytes : List ℕ). bytes_said i (Runs s) ++ bytes) (closing_told others (closing_with (unsaid i s) s))
+    ∙ sym (append_assoc (bytes_said i (Runs s)) (unsaid i s) reply)
+    ∙ ap (λ (bytes : List ℕ). bytes ++ reply) (said_behind i s)
+
 pub all_told : (turns : List Fed) (s : Session) → told_on turns (Runs s) ≡ s.to_say ++ due_on turns (Runs s)
 all_told [] s = sym (append-nil s.to_say)
-all_told (t ∷ others) s = told_next t others (Runs s) ∙ by t.memory
-  where
-    by : (m : Bool) → bytes_said t.input (Runs s) ++ told_on others (after_turn m t.input (Runs s))
-        ≡ s.to_say ++ (added_out m t.input s (out_by others (after_turn m t.input (Runs s)))
-        ++ reply_out m s (memory_by others (after_turn m t.input (Runs s))))
-    by true =
-        let step = goes_on t.input s in
-        let front = bytes_said t.input (Runs s) in
-        let due : List ℕ = due_on others (Runs step.next) in
-        ap (λ (state : State). front ++ told_on others state) step.is
-        ∙ ap (λ (bytes : List ℕ). front ++ bytes) (all_told others step.next)
-        ∙ ap (λ (bytes : List ℕ). front ++ (bytes ++ due)) (ap (λ (x : Seen). x.to_say) step.same ∙ added_is t.input s)
-        ∙ ap (λ (bytes : List ℕ). front ++ bytes) (append_assoc (unsaid t.input s) (added t.input s) due)
-        ∙ sym (append_assoc front (unsaid t.input s) (added t.input s ++ due))
-        ∙ ap (λ (bytes : List ℕ). bytes ++ (added t.input s ++ due)) (said_behind t.input s)
-        ∙ ap (λ (bytes : List ℕ). s.to_say ++ bytes)
-        (sym (append_assoc (added t.input s) (out_by others (Runs step.next)) (memory_by others (Runs step.next)))
-        ∙ ap (λ (state : State). (added t.input s ++ out_by others state) ++ memory_by others state) (sym step.is))
-    by false =
-        let reply = memory_reply (first_number s.core) in
-        ap (λ (state : State). bytes_said t.input (Runs s) ++ told_on others state) (stops t.input s)
-        ∙ ap (λ (bytes : List ℕ). bytes_said t.input (Runs s) ++ bytes) (closing_told others (closing_with (unsaid t.input s) s))
-        ∙ sym (append_assoc (bytes_said t.input (Runs s)) (unsaid t.input s) reply)
-        ∙ ap (λ (bytes : List ℕ). bytes ++ reply) (said_behind t.input s)
+all_told (t ∷ others) s = told_next t others (Runs s) ∙ one_told t.memory t.input others s (all_told others)
 
 -- where it found its memory to the end, there is no RSCLMTRM
 
@@ -155,15 +157,18 @@ closing_stays (t ∷ others) c =
     let step = closes_on t.memory t.input c in
     ap (λ (state : State). finds_memory (after_all others state)) step.is ∙ closing_stays others step.next
 
+one_reply : (m : Bool) (i : Input) (others : List Fed) (s : Session)
+    → ((next : Session) → finds_memory (after_all others (Runs next)) ≡ true → memory_by others (Runs next) ≡ [])
+    → finds_memory (after_all others (after_turn m i (Runs s))) ≡ true → reply_out m s (memory_by others (after_turn m i (Runs s))) ≡ []
+one_reply true i others s then_none found =
+    let step = goes_on i s in
+    ap (λ (state : State). memory_by others state) step.is
+    ∙ then_none step.next (ap (λ (state : State). finds_memory (after_all others state)) (sym step.is) ∙ found)
+one_reply false i others s then_none found =
+    absurd (let none : finds_memory (after_all others (after_turn false i (Runs s))) ≡ false =
+      ap (λ (state : State). finds_memory (after_all others state)) (stops i s) ∙ closing_stays others (closing_with (unsaid i s) s) in
+    let apart : true ≡ false = sym found ∙ none in cc)
+
 pub without_reply : (turns : List Fed) (s : Session) → finds_memory (after_all turns (Runs s)) ≡ true → memory_by turns (Runs s) ≡ []
 without_reply [] s found = refl
-without_reply (t ∷ others) s found = by t.memory found
-  where
-    by : (m : Bool) → finds_memory (after_all others (after_turn m t.input (Runs s))) ≡ true
-        → reply_out m s (memory_by others (after_turn m t.input (Runs s))) ≡ []
-    by true found =
-        let step = goes_on t.input s in
-        ap (λ (state : State). memory_by others state) step.is
-        ∙ without_reply others step.next (ap (λ (state : State). finds_memory (after_all others state)) (sym step.is) ∙ found)
-    by false found = absurd (let other : finds_memory (after_all others (after_turn false t.input (Runs s))) ≡ false =
-        ap (λ (state : State). finds_memory (after_all others state)) (stops t.input s) ∙ closing_stays others (closing_with (unsaid t.input s) s) in cc)
+without_reply (t ∷ others) s found = one_reply t.memory t.input others s (without_reply others) found
