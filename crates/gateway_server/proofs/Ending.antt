@@ -1,6 +1,7 @@
 -- A session from its first turn to its end.
-use Rattle.std.proofs.Common.{◌≡◌, ◌<◌, ◌≤◌, ◌+◌, ◌⊎◌, inl, inr, ℕ, Bool, true, false, List, [], ◌∷◌, ◌++◌, length, nat_eq, Option, Some, None}
+use Rattle.std.proofs.Common.{◌≡◌, ◌<◌, ◌≤◌, ◌+◌, ◌⊎◌, inl, inr, ℕ, suc, Bool, true, false, List, [], ◌∷◌, ◌++◌, length, nat_eq, Option, Some, None}
 use Rattle.std.proofs.Common.{option_map, refl, sym, ap, subst, ◌∙◌, arith}
+use Rattle.std.proofs.lemmas.Bool.Decides.{nat_tests}
 use Rattle.std.proofs.lemmas.List.{append-nil}
 use Rattle.link_ends.specs.Counts.{greatest, Rose}
 use Rattle.link_ends.specs.Link.{LinkState, is_none_told}
@@ -21,7 +22,8 @@ use Rattle.gateway_server.proofs.Telling.{all_told, without_reply}
 
 none_told : (told : List ℕ) (bytes : List ℕ) → nat_eq (length told) 0 ≡ true → told ++ bytes ≡ bytes
 none_told [] bytes e = refl
-none_told (byte ∷ told) bytes e = absurd cc
+none_told (byte ∷ told) bytes e =
+    absurd (let some : nat_eq (suc (length told)) 0 ≡ false = grind (arith, nat_tests) in let apart : true ≡ false = sym e ∙ some in cc)
 
 tells_by : (old new : Option (List ℕ)) (bytes : List ℕ) → is_none_told old ≡ true → new ≡ more old bytes → Tells new bytes
 tells_by None new bytes unused e = subst (λ (o : Option (List ℕ)). Tells o bytes) (sym e) tt
@@ -29,7 +31,7 @@ tells_by (Some told) new bytes unused e = subst (λ (o : Option (List ℕ)). Tel
 
 -- ---- a session that has ended
 
-memory_needed : Need → Bool
+abbrev memory_needed : Need → Bool
 memory_needed (need.Done e) = is_memory e
 memory_needed _ = false
 

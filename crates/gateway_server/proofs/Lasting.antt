@@ -230,7 +230,7 @@ pub record Tells (old now : LinkState) (e : Event) (n : Need) : Type 0 where
   pub ended : e ≡ event.End false → (Rose old.ends now.ends × (n ≡ need.App)) ⊎ Rose old.stuck now.stuck
   pub fault : e ≡ event.End true → Rose old.faults now.faults
 
-lasts_itself : (l : LinkState) → Lasts l l
+pub lasts_itself : (l : LinkState) → Lasts l l
 lasts_itself l = record { faults = omega arith; ends = omega arith; stuck = omega arith }
 
 abbrev quiet_end : Event → Bool
