@@ -1,0 +1,10 @@
+pub mod Dialling
+pub mod Feeds
+pub mod Goes
+pub mod Gripping
+pub mod Saying
+pub mod Telling
+pub mod Lasting
+pub mod Ending
+pub mod Told
+pub mod Unasked

@@ -1,0 +1,16 @@
+use Rattle.gateway_session.specs.Inputs as Input
+use Rattle.gateway_server.specs.Leases.{held_by, grip_lent, grip_in}
+use Rattle.gateway_server.proofs.Feeds.{fed_has}
+use Rattle.gateway_server.proofs.Gripping.{Kept, app_feeds}
+use Rattle.gateway_server.proofs.feeding.feed_app.Goals as goal
+
+kept : (c : goal.After-is_ok) → Kept (held_by c.args.session.now) (held_by c.on_app.new.self)
+kept c =
+    fed_has (λ state. Kept (held_by c.args.session.now) (held_by state)) c.on_app.result (Input.App c.args.piece.now) c.args.session.now c.on_app.new.self c.on_app.ensures.ok
+    c.on_app.ensures.memory (λ memory. app_feeds memory c.args.piece.now c.args.session.now)
+
+pub returns-clause-grip : goal.returns-clause-grip
+returns-clause-grip c = (kept c).grip
+
+pub returns-clause-rests : goal.returns-clause-rests
+returns-clause-rests c = (kept c).rest c.requires.rests

@@ -1,0 +1,10 @@
+pub mod Leases
+pub mod Events
+pub mod Feeding
+pub mod Leaving
+pub mod Turned
+pub mod Runs
+pub mod Dialling
+pub mod Went
+pub mod Served
+pub mod Lasting
