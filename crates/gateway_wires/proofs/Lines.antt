@@ -1,0 +1,99 @@
+-- What is seen of transports after one of them changes.
+use Rattle.std.proofs.Common.{◌≡◌, ◌≢◌, ◌<◌, ℕ, ◌==◌, Bool, true, false, ◌&&◌, ◌||◌, eqb, eqb-true, eq-eqb, leb, List, [], ◌∷◌, set, get_or, map, length}
+use Rattle.std.proofs.Common.{Result, Ok, Err, Option, Some, None, refl, sym, ap, subst, ◌∙◌, get_or-set_same, get_or-set_other, arith, true≢false}
+use Rattle.std.proofs.Common.{zero, suc}
+use Rattle.std.specs.Prelude.{option_map, slice_get, OnOk}
+use Rattle.std.specs.List.{AllByRecursion}
+use Rattle.std.specs.BTreeSet.{BTreeSet}
+use Rattle.std.proofs.Math.ListN.{get_or-map}
+use Rattle.std.proofs.lemmas.List.{map-set, set-get_or}
+use Rattle.std.proofs.lemmas.Bool.{and_left, and_right, ne_eqb}
+use Rattle.std.proofs.lemmas.Option.{none-some}
+use Rattle.link_ends.proofs.Lists.{all_set}
+use Rattle.plain_model.proofs.Puts.{by_equal}
+use Rattle.gateway_wires.specs.Line.{LineState, is_flying_on}
+use Rattle.gateway_wires.specs.Wires.{WiresState, line_of, on_line}
+use Rattle.gateway_wires.specs.Inside.{Dialled, on_dialled, seen_line, wires_in, flies_to, is_in, OfDialled, WasDialled, AreWires, Sorts, AreSame}
+
+module _ {U : Type 0} (fell : List ℕ) (down : List Bool) where
+  pub seen : (lines : List (Option (Dialled U))) (number : ℕ)
+      → line_of (wires_in lines fell down) number ≡ option_map (seen_line fell) (get_or lines number None)
+  seen lines number = get_or-map (option_map (seen_line fell)) lines number None
+
+  -- one that was dialled, and one that wasn't
+  pub seen_so : (lines : List (Option (Dialled U))) (number : ℕ) (x : Option (Dialled U)) → x ≡ get_or lines number None
+      → line_of (wires_in lines fell down) number ≡ option_map (seen_line fell) x
+  seen_so lines number x is = seen lines number ∙ ap (option_map (seen_line fell)) (sym is)
+
+  -- what was done with it shows
+  pub changed : (change : LineState U → LineState U) (lines : List (Option (Dialled U))) (number : ℕ) (x : Dialled U) → Some x ≡ get_or lines number None
+      → seen_line fell (on_dialled change x) ≡ change (seen_line fell x)
+      → wires_in (set lines number (Some (on_dialled change x))) fell down ≡ on_line number change (wires_in lines fell down)
+  changed change lines number x is alike =
+      ap (λ (ls : List (Option (LineState U))). record { lines = ls; down = down }) (
+      map-set (option_map (seen_line fell)) lines number (Some (on_dialled change x))
+      ∙ ap (λ (y : LineState U). set (map (option_map (seen_line fell)) lines) number (Some y)) alike
+      ∙ ap (λ (o : Option (LineState U)). set (map (option_map (seen_line fell)) lines) number (option_map change o)) (sym (seen_so lines number (Some x) is)))
+
+  -- the same, where memory may have run out
+  pub changed_ok : {A E : Type 0} (result : Result A E) (change : LineState U → LineState U) (lines : List (Option (Dialled U))) (number : ℕ) (x x' : Dialled U)
+      → Some x ≡ get_or lines number None → seen_line fell (on_dialled change x) ≡ change (seen_line fell x) → OnOk result (x' ≡ on_dialled change x)
+      → OnOk result (wires_in (set lines number (Some x')) fell down ≡ on_line number change (wires_in lines fell down))
+  changed_ok (Err e) change lines number x x' is alike done = tt
+  changed_ok (Ok a) change lines number x x' is alike done = rw done (changed change lines number x is alike)
+
+  -- of one that wasn't dialled nothing changes
+  pub unchanged : (change : LineState U → LineState U) (lines : List (Option (Dialled U))) (number : ℕ) → None ≡ get_or lines number None
+      → wires_in lines fell down ≡ on_line number change (wires_in lines fell down)
+  unchanged change lines number is =
+      let none = seen_so lines number None is in
+      let all : List (Option (LineState U)) = map (option_map (seen_line fell)) lines in
+      ap (λ (ls : List (Option (LineState U))). record { lines = ls; down = down }) (
+      sym (set-get_or all number None)
+      ∙ ap (λ (o : Option (LineState U)). set all number o) none
+      ∙ ap (λ (o : Option (LineState U)). set all number (option_map change o)) (sym none))
+
+-- ---- which have bytes on their way
+
+past : {A : Type 0} (xs : List A) (n : ℕ) (d : A) → get_or xs n d ≢ d → n < length xs
+past [] n d other = absurd (other refl)
+past (x ∷ xs) zero d other = omega arith
+past (x ∷ xs) (suc n) d other = let h = past xs n d other in omega (arith, h)
+
+-- it is there
+pub there : {A : Type 0} (xs : List (Option A)) (n : ℕ) (x : A) → Some x ≡ get_or xs n None → n < length xs
+there xs n x is = past xs n None (λ e. none-some x (sym (is ∙ e)))
+
+module _ {U : Type 0} (fell : List ℕ) (flying flying' : List (BTreeSet ℕ)) (lines : List (Option (Dialled U))) (number : ℕ) where
+  -- all transports but this one, or this one of another member
+  abbrev pub Others : ℕ → Type 0
+  Others member = (another other : ℕ) → (another == member && other == number) ≡ false → is_in flying' another other ≡ is_in flying another other
+
+  abbrev Flies : List (BTreeSet ℕ) → List (Option (Dialled U)) → Type 0
+  Flies flying lines = (member number : ℕ) → member < 33 → is_in flying member number ≡ flies_to member (option_map (seen_line fell) (get_or lines number None))
+
+  pub flies_after : (x x' : Dialled U) → Some x ≡ get_or lines number None → x'.line.member ≡ x.line.member
+      → is_in flying' x.line.member number ≡ is_flying_on (seen_line fell x') → Others x.line.member
+      → Flies flying lines → Flies flying' (set lines number (Some x'))
+  flies_after x x' is same this others flies member other in_range = by_equal other number
+      (λ e. subst (λ (n : ℕ). is_in flying' member n ≡ flies_to member (option_map (seen_line fell) (get_or (set lines number (Some x')) n None))) (sym e)
+      (at_number ∙ ap (λ (o : Option (Dialled U)). flies_to member (option_map (seen_line fell) o))
+      (sym (get_or-set_same lines number (Some x') None (there lines number x is)))))
+      (λ ne. others member other (and_right (eqb member x.line.member) (eqb other number) (ne_eqb other number ne))
+      ∙ flies member other in_range
+      ∙ ap (λ (o : Option (Dialled U)). flies_to member (option_map (seen_line fell) o)) (sym (get_or-set_other lines number other (Some x') None ne)))
+    where
+      and_true : (a b : Bool) → b ≡ true → a ≡ (a && b)
+      and_true true b e = sym e
+      and_true false b e = refl
+
+      -- the member's own set, or another one
+      at_number : is_in flying' member number ≡ (is_flying_on (seen_line fell x') && eqb x'.line.member member)
+      at_number = by_equal member x.line.member
+          (λ e. ap (λ (m : ℕ). is_in flying' m number) e ∙ this
+          ∙ and_true (is_flying_on (seen_line fell x')) (eqb x'.line.member member) (eq-eqb x'.line.member member (same ∙ sym e)))
+          (λ ne. others member number (and_left (eqb member x.line.member) (eqb number number) (ne_eqb member x.line.member ne))
+          ∙ flies member number in_range
+          ∙ ap (λ (o : Option (Dialled U)). flies_to member (option_map (seen_line fell) o)) (sym is)
+          ∙ and_right (is_flying_on (seen_line fell x)) (eqb x.line.member member) (ne_eqb x.line.member member (λ e. ne (sym e)))
+          ∙ sym (and_right (is_flying_on (seen_line fell x')) (eqb x'.line.member member) (ne_eqb x'.line.member member (λ e. ne (sym (sym same ∙ e))))))
