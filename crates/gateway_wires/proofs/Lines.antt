@@ -25,24 +25,27 @@ module _ {U : Type 0} (fell : List ℕ) (down : List Bool) where
       → line_of (wires_in lines fell down) number ≡ option_map (seen_line fell) x
   seen_so lines number x is = seen lines number ∙ ap (option_map (seen_line fell)) (sym is)
 
-  -- what was done with it shows
-  pub changed : (change : LineState U → LineState U) (lines : List (Option (Dialled U))) (number : ℕ) (x : Dialled U) → Some x ≡ get_or lines number None
-      → seen_line fell (on_dialled change x) ≡ change (seen_line fell x)
-      → wires_in (set lines number (Some (on_dialled change x))) fell down ≡ on_line number change (wires_in lines fell down)
-  changed change lines number x is alike =
+  -- what is asked of it is told of all transports as they are seen
+  pub seen_as : {A : Type 0} (lines : List (Option (Dialled U))) (number : ℕ) (w : WiresState U) (x : Option (Dialled U)) → wires_in lines fell down ≡ w
+      → x ≡ get_or lines number None → (ask : Option (LineState U) → A) → ask (option_map (seen_line fell) x) ≡ ask (line_of w number)
+  seen_as lines number w x view is ask = ap ask (sym (seen_so lines number x is) ∙ ap (λ (v : WiresState U). line_of v number) view)
+
+  -- what is done with it shows, whether it was dialled or not
+  pub changed : (change : LineState U → LineState U) (lines : List (Option (Dialled U))) (number : ℕ) (slot : Option (Dialled U))
+      → slot ≡ option_map (on_dialled change) (get_or lines number None)
+      → ((x : Dialled U) → seen_line fell (on_dialled change x) ≡ change (seen_line fell x))
+      → wires_in (set lines number slot) fell down ≡ on_line number change (wires_in lines fell down)
+  changed change lines number slot is alike =
       ap (λ (ls : List (Option (LineState U))). record { lines = ls; down = down }) (
-      map-set (option_map (seen_line fell)) lines number (Some (on_dialled change x))
-      ∙ ap (λ (y : LineState U). set (map (option_map (seen_line fell)) lines) number (Some y)) alike
-      ∙ ap (λ (o : Option (LineState U)). set (map (option_map (seen_line fell)) lines) number (option_map change o)) (sym (seen_so lines number (Some x) is)))
+      map-set (option_map (seen_line fell)) lines number slot
+      ∙ ap (λ (o : Option (LineState U)). set (map (option_map (seen_line fell)) lines) number o)
+      (ap (option_map (seen_line fell)) is ∙ both (get_or lines number None) ∙ ap (option_map change) (sym (seen lines number))))
+    where
+      both : (x : Option (Dialled U)) → option_map (seen_line fell) (option_map (on_dialled change) x) ≡ option_map change (option_map (seen_line fell) x)
+      both None = refl
+      both (Some x) = ap (λ (y : LineState U). Some y) (alike x)
 
-  -- the same, where memory may have run out
-  pub changed_ok : {A E : Type 0} (result : Result A E) (change : LineState U → LineState U) (lines : List (Option (Dialled U))) (number : ℕ) (x x' : Dialled U)
-      → Some x ≡ get_or lines number None → seen_line fell (on_dialled change x) ≡ change (seen_line fell x) → OnOk result (x' ≡ on_dialled change x)
-      → OnOk result (wires_in (set lines number (Some x')) fell down ≡ on_line number change (wires_in lines fell down))
-  changed_ok (Err e) change lines number x x' is alike done = tt
-  changed_ok (Ok a) change lines number x x' is alike done = rw done (changed change lines number x is alike)
-
-  -- of one that wasn't dialled nothing changes
+  -- nothing is done with one that wasn't dialled
   pub unchanged : (change : LineState U → LineState U) (lines : List (Option (Dialled U))) (number : ℕ) → None ≡ get_or lines number None
       → wires_in lines fell down ≡ on_line number change (wires_in lines fell down)
   unchanged change lines number is =

@@ -1,13 +1,17 @@
 -- The lowest number in several sets, found one set after another.
 use Rattle.std.proofs.Common.{◌≡◌, ◌≢◌, ◌<◌, ◌≤◌, ◌+◌, ℕ, zero, suc, ◌==◌, Bool, true, false, if◌then◌else◌, List, [], ◌∷◌, length, Option, Some}
 use Rattle.std.proofs.Common.{None, refl, sym, ap, subst, ◌∙◌, arith}
-use Rattle.std.specs.Prelude.{nat_lt, slice_get}
-use Rattle.std.specs.BTreeSet.{BTreeSet, contains}
+use Rattle.std.specs.Prelude.{nat_lt, slice_get, IfSome}
+use Rattle.std.specs.Option.{IsSome, option_copied}
+use Rattle.std.specs.Borrow.{Bor}
+use Rattle.std.specs.BTreeSet.{BTreeSet, contains, IsLowerBound}
+use Rattle.std.proofs.lemmas.Map.Keys.{le_from_not_gt}
 use Rattle.std.specs.Ordering.{nat_cmp}
 use Rattle.std.proofs.lemmas.Bool.{false≢true}
 use Rattle.std.proofs.lemmas.Bool.Decides.{nat_tests}
 use Rattle.plain_model.proofs.Puts.{by_equal}
 use Rattle.gateway_wires.specs.Inside.{is_in, is_in_set, lower, IsLowest}
+use Rattle.gateway_wires.proofs.Falling.{empty_of}
 
 -- of the sets of the first members
 abbrev pub IsLowestIn : ℕ → List (BTreeSet ℕ) → Option ℕ → Type 0
@@ -20,6 +24,21 @@ IsLowestIn count flying (Some lowest) =
 abbrev pub IsFirstOf : BTreeSet ℕ → Option ℕ → Type 0
 IsFirstOf numbers None = (number : ℕ) → contains nat_cmp numbers number ≡ false
 IsFirstOf numbers (Some first) = (contains nat_cmp numbers first ≡ true) × ((number : ℕ) → number < first → contains nat_cmp numbers number ≡ false)
+
+no_keys : (keys : List ℕ) → (0 < length keys → false ≡ true) → keys ≡ []
+no_keys [] there = refl
+no_keys (key ∷ keys) there = absurd (false≢true (there (omega arith)))
+
+-- what the set tells as its first number
+pub first_is : (numbers : BTreeSet ℕ) (first : Option (Bor ℕ)) → (0 < length numbers.keys → IsSome first)
+    → IfSome first (λ k. contains nat_cmp numbers k.now ≡ true) → IfSome first (λ k. IsLowerBound nat_cmp numbers k.now)
+    → IsFirstOf numbers (option_copied first)
+first_is numbers None there member least = λ number. empty_of numbers (no_keys numbers.keys there) number
+first_is numbers (Some k) there member least = (member, λ number lt. off number lt (contains nat_cmp numbers number) refl)
+  where
+    off : (number : ℕ) → number < k.now → (b : Bool) → contains nat_cmp numbers number ≡ b → contains nat_cmp numbers number ≡ false
+    off number lt true e = let le = le_from_not_gt k.now number (least number e) in absurd (omega (arith, le, lt))
+    off number lt false e = e
 
 pub lowest_none : (flying : List (BTreeSet ℕ)) → IsLowestIn 0 flying None
 lowest_none flying member number lt = absurd (omega arith)

@@ -5,7 +5,7 @@ use Rattle.std.specs.List.{AllByRecursion}
 use Rattle.std.specs.Ordering.{nat_cmp}
 use Rattle.std.specs.BTreeSet.{BTreeSet, contains}
 use Rattle.member_core.specs.Conversation.{ConversationState}
-use Rattle.gateway_wires.specs.Line.{LineState, is_flying_on}
+use Rattle.gateway_wires.specs.Line.{LineState, with_conversation, is_flying_on}
 use Rattle.gateway_wires.specs.Wires.{WiresState}
 use Rattle.gateway_wires.specs.declared.wire.Wire.{Wire}
 
@@ -35,6 +35,16 @@ pub record IsLine (wire : Wire) (acted read : ℕ) : Type 0 where
 -- this was done with it
 abbrev pub on_dialled : {U : Type 0} → (LineState U → LineState U) → Dialled U → Dialled U
 on_dialled change x = record x { line = change x.line }
+
+-- what stands at the place of a number
+abbrev pub line_at : {U : Type 0} → Option (Dialled U) → Option (LineState U)
+line_at slot = option_map (λ x. x.line) slot
+
+-- its conversation alone may be another one
+abbrev pub KeepsBytes : {U : Type 0} → Option (Dialled U) → Option (Dialled U) → Type 0
+KeepsBytes None new = new ≡ None
+KeepsBytes (Some x) None = ⊥
+KeepsBytes (Some x) (Some y) = y ≡ on_dialled (with_conversation y.line.conversation) x
 
 -- ---- all transports
 
@@ -121,8 +131,9 @@ abbrev pub SortsOld : {U : Type 0} → ℕ → Option (Dialled U) → List (BTre
 SortsOld number None old new = new ≡ old
 SortsOld number (Some x) old new = Sorts x.line.member number false old new
 
-abbrev pub LeavesAtRest : {U : Type 0} → ℕ → LineState U → List (BTreeSet ℕ) → List (BTreeSet ℕ) → Type 0
-LeavesAtRest number x old new = SortsOut (length x.flying == 0) x.member number old new
+abbrev pub LeavesAtRest : {U : Type 0} → ℕ → Option (Dialled U) → List (BTreeSet ℕ) → List (BTreeSet ℕ) → Type 0
+LeavesAtRest number None old new = new ≡ old
+LeavesAtRest number (Some x) old new = SortsOut (length x.line.flying == 0) x.line.member number old new
 
 abbrev pub lower : Option ℕ → Option ℕ → Option ℕ
 lower None other = other

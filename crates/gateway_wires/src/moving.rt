@@ -1,9 +1,10 @@
 //! What is done with one transport: it is dialled, bytes are sent, acted on and read, and its member drops it. Each keeps which
 //! transports have bytes on their way that their members will act on.
 
-ghost use Rattle.std.specs.Prelude.{◌≡◌, ◌≤◌, ◌<◌, not, ◌&&◌, length, slice_index_or, OnOk, OnErr, None, true, false};
+ghost use Rattle.std.specs.Prelude.{◌≡◌, ◌≤◌, ◌<◌, not, ◌&&◌, length, slice_index_or, option_map, OnOk, OnErr, None, true, false};
 ghost use Rattle.server_list.specs.Tried.{is_member};
-ghost use Rattle.gateway_wires.specs.Inside.{has_dropped, HasGrown, OfDialled, IsIn, SortsOld, EntersIf, Sorts, AreSame, LeavesAtRest};
+ghost use Rattle.gateway_wires.specs.Inside.{has_dropped, on_dialled, line_at, HasGrown, OfDialled, IsIn, KeepsBytes};
+ghost use Rattle.gateway_wires.specs.Inside.{SortsOld, SortsOut, EntersIf, Sorts, AreSame, LeavesAtRest};
 ghost use Rattle.gateway_wires.specs.Line.{dialled, with_sent, with_acted, with_read, with_dropped, is_dropped, is_empty};
 ghost use Rattle.gateway_wires.specs.Line.{flying_of, coming_of};
 ghost use Rattle.gateway_wires.specs.Wires.{line_of, is_down, on_line, with_line, with_room, shared_by};
@@ -40,13 +41,13 @@ impl<G: Group> Wires<G> {
     pub fn send(&mut self, number: u64, piece: &[u8]) -> Result<(), NoMemory>
         ensures { OnOk result (self.new ≡ on_line number (with_sent piece.now) self.old) }
     {
-        let Some(Some(line)) = self.lines.get_mut(number as usize) else {
+        let Some(line) = line_at(&self.lines, number) else {
             return Ok(());
         };
         let flies = will_fly(&self.fell, line, piece);
         enter_if(&mut self.flying, flies, line.member(), number)?;
-        let sent = line.send(piece);
-        leave_at_rest(&mut self.flying, number, line);
+        let sent = send_at(&mut self.lines[number as usize], piece);
+        leave_at_rest(&mut self.flying, &self.lines, number);
         sent
     }
 
@@ -57,11 +58,12 @@ impl<G: Group> Wires<G> {
         ensures wires { OnOk result (self.new ≡ on_line number (with_acted G.meaning count group.old) self.old) }
         ensures shared { OnOk result (group.new ≡ shared_by G.meaning count (line_of self.old number) group.old) }
     {
-        let Some(Some(line)) = self.lines.get_mut(number as usize) else {
+        let place = number as usize;
+        if place >= self.lines.len() {
             return Ok(());
-        };
-        line.act(count, group)?;
-        leave_at_rest(&mut self.flying, number, line);
+        }
+        act_at(&mut self.lines[place], count, group)?;
+        leave_at_rest(&mut self.flying, &self.lines, number);
         Ok(())
     }
 
@@ -70,21 +72,72 @@ impl<G: Group> Wires<G> {
         requires { count ≤ length (coming_of (line_of self.old number)) }
         ensures { self.new ≡ on_line number (with_read count) self.old }
     {
-        let Some(Some(line)) = self.lines.get_mut(number as usize) else {
+        let place = number as usize;
+        if place >= self.lines.len() {
             return;
-        };
-        line.count_read(count);
+        }
+        read_at(&mut self.lines[place], count);
     }
 
     /// Its member drops it.
     pub fn drop_line(&mut self, number: u64)
         ensures { self.new ≡ on_line number with_dropped self.old }
     {
-        let Some(Some(line)) = self.lines.get_mut(number as usize) else {
+        let place = number as usize;
+        if place >= self.lines.len() {
             return;
-        };
+        }
+        leave_old(&mut self.flying, &self.lines, number);
+        drop_at(&mut self.lines[place]);
+    }
+}
+
+// ---- what stands at the place of a number
+
+/// These bytes are sent on it.
+fn send_at<G: Group>(slot: &mut Option<Line<G>>, piece: &[u8]) -> Result<(), NoMemory>
+    ensures ok { OnOk result (slot.new ≡ option_map (on_dialled (with_sent piece.now)) slot.old) }
+    ensures err { OnErr result (slot.new ≡ slot.old) }
+{
+    match slot {
+        Some(line) => line.send(piece),
+        None => Ok(()),
+    }
+}
+
+/// Its member acts on the next so many bytes.
+fn act_at<G: Group>(
+    slot: &mut Option<Line<G>>,
+    count: usize,
+    group: &mut G,
+) -> Result<(), NoMemory>
+    requires { count ≤ length (flying_of (line_at slot.old)) }
+    ensures slot { OnOk result (slot.new ≡ option_map (on_dialled (with_acted G.meaning count group.old)) slot.old) }
+    ensures shared { OnOk result (group.new ≡ shared_by G.meaning count (line_at slot.old) group.old) }
+    ensures err { OnErr result (KeepsBytes slot.old slot.new) }
+{
+    match slot {
+        Some(line) => line.act(count, group),
+        None => Ok(()),
+    }
+}
+
+/// The next so many bytes of its member's answers were read.
+fn read_at<G: Group>(slot: &mut Option<Line<G>>, count: usize)
+    requires { count ≤ length (coming_of (line_at slot.old)) }
+    ensures { slot.new ≡ option_map (on_dialled (with_read count)) slot.old }
+{
+    if let Some(line) = slot {
+        line.count_read(count);
+    }
+}
+
+/// Its member drops it.
+fn drop_at<G: Group>(slot: &mut Option<Line<G>>)
+    ensures { slot.new ≡ option_map (on_dialled with_dropped) slot.old }
+{
+    if let Some(line) = slot {
         line.drop_it();
-        leave(&mut self.flying, line.member(), number);
     }
 }
 
@@ -141,12 +194,22 @@ fn leave(flying: &mut [BTreeSet<u64>], member: u32, number: u64)
     flying[member as usize].remove(&number);
 }
 
-/// The same, where it has none.
-fn leave_at_rest<G: Group>(flying: &mut [BTreeSet<u64>], number: u64, line: &Line<G>)
-    requires { line.now.line.member < length flying.old }
-    ensures { LeavesAtRest number line.now.line flying.old flying.new }
+/// The same, where the transport of this number has none.
+fn leave_at_rest<G: Group>(flying: &mut [BTreeSet<u64>], lines: &[Option<Line<G>>], number: u64)
+    requires { OfDialled (IsIn (length flying.old)) (slice_index_or lines.now number None) }
+    ensures { LeavesAtRest number (slice_index_or lines.now number None) flying.old flying.new }
 {
-    if line.flying() == 0 {
-        leave(flying, line.member(), number);
+    if let Some(line) = line_at(lines, number) {
+        leave_if(flying, line.flying() == 0, line.member(), number);
+    }
+}
+
+/// A transport of this member has none, if it hasn't.
+fn leave_if(flying: &mut [BTreeSet<u64>], rests: bool, member: u32, number: u64)
+    requires { member < length flying.old }
+    ensures { SortsOut rests member number flying.old flying.new }
+{
+    if rests {
+        leave(flying, member, number);
     }
 }

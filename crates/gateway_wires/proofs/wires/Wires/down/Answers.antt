@@ -1,4 +1,4 @@
-use Rattle.std.proofs.Common.{length, ap, ◌∙◌}
+use Rattle.std.proofs.Common.{length, ap, ◌∙◌, rules}
 use Rattle.gateway_wires.specs.Wires.{with_down}
 use Rattle.gateway_wires.proofs.Falling.{view_down, wires_down, member_in, empty_of}
 use Rattle.gateway_wires.proofs.wires.Wires.down.Goals as goal
