@@ -59,7 +59,7 @@ module _ {U : Type 0} (fell : List ℕ) (down : List Bool) (flying flying' : Lis
         ∙ ap (λ (x : Option (Dialled U)). flies_to member (option_map (seen_line fell) x)) (sym (any_room_same more lines n));
   }
 
-  is_in_room : AreWires lines fell flying count → OfDialled (IsIn (length flying)) (get_or (with_room number lines) number None)
+  pub is_in_room : AreWires lines fell flying count → OfDialled (IsIn (length flying)) (get_or (with_room number lines) number None)
   is_in_room wires = go (get_or (with_room number lines) number None)
       (all_get (OfDialled (WasDialled count)) (with_room number lines) number None
       (all_room (OfDialled (WasDialled count)) tt lines (suc number - length lines) wires.dialled) tt)

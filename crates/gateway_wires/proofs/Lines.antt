@@ -11,9 +11,10 @@ use Rattle.std.proofs.lemmas.Bool.{and_left, and_right, ne_eqb}
 use Rattle.std.proofs.lemmas.Option.{none-some}
 use Rattle.link_ends.proofs.Lists.{all_set}
 use Rattle.plain_model.proofs.Puts.{by_equal}
-use Rattle.gateway_wires.specs.Line.{LineState, is_flying_on}
-use Rattle.gateway_wires.specs.Wires.{WiresState, line_of, on_line}
-use Rattle.gateway_wires.specs.Inside.{Dialled, on_dialled, seen_line, wires_in, flies_to, is_in, OfDialled, WasDialled, AreWires, Sorts, AreSame}
+use Rattle.plain_model.specs.Group.{Meaning}
+use Rattle.gateway_wires.specs.Line.{LineState, is_flying_on, flying_of, coming_of}
+use Rattle.gateway_wires.specs.Wires.{WiresState, line_of, on_line, shared_by}
+use Rattle.gateway_wires.specs.Inside.{Dialled, line_at, on_dialled, seen_line, wires_in, flies_to, is_in, OfDialled, WasDialled, AreWires, Sorts, AreSame}
 
 module _ {U : Type 0} (fell : List ℕ) (down : List Bool) where
   pub seen : (lines : List (Option (Dialled U))) (number : ℕ)
@@ -30,31 +31,58 @@ module _ {U : Type 0} (fell : List ℕ) (down : List Bool) where
       → x ≡ get_or lines number None → (ask : Option (LineState U) → A) → ask (option_map (seen_line fell) x) ≡ ask (line_of w number)
   seen_as lines number w x view is ask = ap ask (sym (seen_so lines number x is) ∙ ap (λ (v : WiresState U). line_of v number) view)
 
-  -- what is done with it shows, whether it was dialled or not
-  pub changed : (change : LineState U → LineState U) (lines : List (Option (Dialled U))) (number : ℕ) (slot : Option (Dialled U))
-      → slot ≡ option_map (on_dialled change) (get_or lines number None)
-      → ((x : Dialled U) → seen_line fell (on_dialled change x) ≡ change (seen_line fell x))
-      → wires_in (set lines number slot) fell down ≡ on_line number change (wires_in lines fell down)
-  changed change lines number slot is alike =
-      ap (λ (ls : List (Option (LineState U))). record { lines = ls; down = down }) (
-      map-set (option_map (seen_line fell)) lines number slot
-      ∙ ap (λ (o : Option (LineState U)). set (map (option_map (seen_line fell)) lines) number o)
-      (ap (option_map (seen_line fell)) is ∙ both (get_or lines number None) ∙ ap (option_map change) (sym (seen lines number))))
-    where
-      both : (x : Option (Dialled U)) → option_map (seen_line fell) (option_map (on_dialled change) x) ≡ option_map change (option_map (seen_line fell) x)
-      both None = refl
-      both (Some x) = ap (λ (y : LineState U). Some y) (alike x)
+  -- the same of how many bytes there are, which is as the transport is kept
+  module _ (lines : List (Option (Dialled U))) (number : ℕ) (w : WiresState U) (x : Option (Dialled U)) (view : wires_in lines fell down ≡ w)
+      (is : x ≡ get_or lines number None) where
+    pub seen_coming : length (coming_of (line_of w number)) ≡ length (coming_of (line_at x))
+    seen_coming = sym (seen_as lines number w x view is (λ (y : Option (LineState U)). length (coming_of y))) ∙ kept x
+      where
+        kept : (x : Option (Dialled U)) → length (coming_of (option_map (seen_line fell) x)) ≡ length (coming_of (line_at x))
+        kept None = refl
+        kept (Some x) = refl
 
-  -- nothing is done with one that wasn't dialled
-  pub unchanged : (change : LineState U → LineState U) (lines : List (Option (Dialled U))) (number : ℕ) → None ≡ get_or lines number None
-      → wires_in lines fell down ≡ on_line number change (wires_in lines fell down)
-  unchanged change lines number is =
-      let none = seen_so lines number None is in
-      let all : List (Option (LineState U)) = map (option_map (seen_line fell)) lines in
-      ap (λ (ls : List (Option (LineState U))). record { lines = ls; down = down }) (
-      sym (set-get_or all number None)
-      ∙ ap (λ (o : Option (LineState U)). set all number o) none
-      ∙ ap (λ (o : Option (LineState U)). set all number (option_map change o)) (sym none))
+    pub seen_flying : length (flying_of (line_of w number)) ≡ length (flying_of (line_at x))
+    seen_flying = sym (seen_as lines number w x view is (λ (y : Option (LineState U)). length (flying_of y))) ∙ kept x
+      where
+        kept : (x : Option (Dialled U)) → length (flying_of (option_map (seen_line fell) x)) ≡ length (flying_of (line_at x))
+        kept None = refl
+        kept (Some x) = refl
+
+    -- and what its member makes of them
+    pub seen_shared : {S : Type 0} (m : Meaning S U) (count : ℕ) (shared : S) → shared_by m count (line_at x) shared ≡ shared_by m count (line_of w number) shared
+    seen_shared m count shared = kept x ∙ seen_as lines number w x view is (λ (y : Option (LineState U)). shared_by m count y shared)
+      where
+        kept : (x : Option (Dialled U)) → shared_by m count (line_at x) shared ≡ shared_by m count (option_map (seen_line fell) x) shared
+        kept None = refl
+        kept (Some x) = refl
+
+  module _ (change : LineState U → LineState U) (lines : List (Option (Dialled U))) (number : ℕ) (w : WiresState U)
+      (view : wires_in lines fell down ≡ w) where
+    -- what is done with it shows, whether it was dialled or not
+    pub changed : (slot : Option (Dialled U)) → slot ≡ option_map (on_dialled change) (get_or lines number None)
+        → ((x : Dialled U) → seen_line fell (on_dialled change x) ≡ change (seen_line fell x))
+        → wires_in (set lines number slot) fell down ≡ on_line number change w
+    changed slot is alike =
+        ap (λ (ls : List (Option (LineState U))). record { lines = ls; down = down }) (
+        map-set (option_map (seen_line fell)) lines number slot
+        ∙ ap (λ (o : Option (LineState U)). set (map (option_map (seen_line fell)) lines) number o)
+        (ap (option_map (seen_line fell)) is ∙ both (get_or lines number None) ∙ ap (option_map change) (sym (seen lines number))))
+        ∙ ap (on_line number change) view
+      where
+        both : (x : Option (Dialled U)) → option_map (seen_line fell) (option_map (on_dialled change) x) ≡ option_map change (option_map (seen_line fell) x)
+        both None = refl
+        both (Some x) = ap (λ (y : LineState U). Some y) (alike x)
+
+    -- nothing is done with one that wasn't dialled
+    pub unchanged : None ≡ get_or lines number None → wires_in lines fell down ≡ on_line number change w
+    unchanged is =
+        let none = seen_so lines number None is in
+        let all : List (Option (LineState U)) = map (option_map (seen_line fell)) lines in
+        ap (λ (ls : List (Option (LineState U))). record { lines = ls; down = down }) (
+        sym (set-get_or all number None)
+        ∙ ap (λ (o : Option (LineState U)). set all number o) none
+        ∙ ap (λ (o : Option (LineState U)). set all number (option_map change o)) (sym none))
+        ∙ ap (on_line number change) view
 
 -- ---- which have bytes on their way
 

@@ -6,11 +6,13 @@ use Rattle.std.specs.Prelude.{option_map, nat_lt, if◌then◌else◌, OnOk, OnE
 use Rattle.std.specs.List.{AllByRecursion}
 use Rattle.std.specs.BTreeSet.{BTreeSet}
 use Rattle.std.proofs.lemmas.Bool.{false≢true}
+use Rattle.std.proofs.lemmas.List.{set-get_or}
 use Rattle.std.proofs.Math.Dec.{eqb-suc-zero}
 use Rattle.link_ends.proofs.Lists.{all_set, all_get}
-use Rattle.gateway_wires.specs.Line.{LineState, with_sent, with_dropped, is_flying_on, is_empty}
-use Rattle.gateway_wires.specs.Inside.{Dialled, on_dialled, fell_of, has_dropped, seen_line, flies_to, is_in, OfDialled, WasDialled, AreWires, Sorts}
-use Rattle.gateway_wires.specs.Inside.{SortsOut, EntersIf, LeavesAtRest, AreSame}
+use Rattle.plain_model.specs.Group.{Meaning}
+use Rattle.gateway_wires.specs.Line.{LineState, with_sent, with_acted, with_read, with_dropped, is_flying_on, is_empty}
+use Rattle.gateway_wires.specs.Inside.{Dialled, on_dialled, fell_of, has_dropped, seen_line, flies_to, is_in, OfDialled, WasDialled, IsIn, AreWires, Sorts}
+use Rattle.gateway_wires.specs.Inside.{KeepsBytes, SortsOld, SortsOut, EntersIf, LeavesAtRest, AreSame}
 use Rattle.gateway_wires.proofs.Lines.{flies_after, Others}
 
 empty_by_length : (bytes : List ℕ) → is_empty bytes ≡ (length bytes == 0)
@@ -118,6 +120,9 @@ module _ {U : Type 0} (fell : List ℕ) (flying : List (BTreeSet ℕ)) (lines : 
     abbrev pub enters : Bool
     enters = not (is_empty piece) && not (has_dropped fell x)
 
+    in_middle_sets : EntersIf enters x.line.member number flying middle → x.line.member < length middle
+    in_middle_sets into = let h = member_within x is wires in let k = (entered enters middle x.line.member into).0 in omega (arith, h, k)
+
     kept_sent_ok : EntersIf enters x.line.member number flying middle
         → SortsOut (length (x.line.flying ++ piece) == 0) x.line.member number middle flying'
         → AreWires (set lines number (Some (on_dialled (with_sent piece) x))) fell flying' count
@@ -141,19 +146,24 @@ module _ {U : Type 0} (fell : List ℕ) (flying : List (BTreeSet ℕ)) (lines : 
         ∙ stays_same (has_dropped fell x) piece x.line.flying e) out) wires
 
     -- bytes were sent on it, or memory ran out
-    pub kept_sent : {A E : Type 0} (result : Result A E) (x' : Dialled U) → OnOk result (x' ≡ on_dialled (with_sent piece) x) → OnErr result (x' ≡ x)
-        → EntersIf enters x.line.member number flying middle → LeavesAtRest number x'.line middle flying'
-        → x'.line.member ≡ x.line.member → AreWires (set lines number (Some x')) fell flying' count
-    kept_sent (Ok a) x' ok err into out member = rw ok (kept_sent_ok into (rw ok at out))
-    kept_sent (Err e) x' ok err into out member = rw err (kept_sent_err into (rw err at out))
+    pub kept_sent : {A E : Type 0} (result : Result A E) (slot : Option (Dialled U)) → OnOk result (slot ≡ option_map (on_dialled (with_sent piece)) (Some x))
+        → OnErr result (slot ≡ Some x) → EntersIf enters x.line.member number flying middle → LeavesAtRest number slot middle flying'
+        → AreWires (set lines number slot) fell flying' count
+    kept_sent (Ok a) slot ok err into out = rw ok (kept_sent_ok into (rw ok at out))
+    kept_sent (Err e) slot ok err into out = rw err (kept_sent_err into (rw err at out))
+
+    pub in_sent : {A E : Type 0} (result : Result A E) (slot : Option (Dialled U)) → OnOk result (slot ≡ option_map (on_dialled (with_sent piece)) (Some x))
+        → OnErr result (slot ≡ Some x) → EntersIf enters x.line.member number flying middle → OfDialled (IsIn (length middle)) slot
+    in_sent (Ok a) slot ok err into = rw ok (in_middle_sets into)
+    in_sent (Err e) slot ok err into = rw err (in_middle_sets into)
 
   -- ---- acting
 
   -- it had bytes on its way where it has some still
-  pub kept_acted : (flying' : List (BTreeSet ℕ)) (n : ℕ) (x x' : Dialled U) → Some x ≡ get_or lines number None → AreWires lines fell flying count
+  kept_acted_on : (flying' : List (BTreeSet ℕ)) (n : ℕ) (x x' : Dialled U) → Some x ≡ get_or lines number None → AreWires lines fell flying count
       → x'.line.member ≡ x.line.member → x'.since ≡ x.since → x'.line.dropped ≡ x.line.dropped → x'.line.flying ≡ drop n x.line.flying
-      → LeavesAtRest number x'.line flying flying' → AreWires (set lines number (Some x')) fell flying' count
-  kept_acted flying' n x x' is wires member since dropped left out =
+      → LeavesAtRest number (Some x') flying flying' → AreWires (set lines number (Some x')) fell flying' count
+  kept_acted_on flying' n x x' is wires member since dropped left out =
       kept_changed flying' x x' is member since
       (sorts_rest flying flying' x.line.member x' refl (λ another other off. refl)
       (λ e. in_place x is wires
@@ -183,10 +193,52 @@ module _ {U : Type 0} (fell : List ℕ) (flying : List (BTreeSet ℕ)) (lines : 
       ∙ ap (λ (n : ℕ). not (x.line.dropped || nat_lt n (fell_of fell x'.line.member)) && not (is_empty x.line.flying)) since
       ∙ ap (λ (m : ℕ). not (x.line.dropped || nat_lt x.since (fell_of fell m)) && not (is_empty x.line.flying)) member)) wires
 
+  -- ---- what stands at the number
+
+  -- one that wasn't dialled stays so
+  none_kept : (flying' : List (BTreeSet ℕ)) (slot : Option (Dialled U)) → None ≡ get_or lines number None → AreWires lines fell flying count
+      → flying' ≡ flying → slot ≡ None → AreWires (set lines number slot) fell flying' count
+  none_kept flying' slot is wires sets none =
+      subst (λ (ls : List (Option (Dialled U))). AreWires ls fell flying' count)
+      (sym (ap (λ (o : Option (Dialled U)). set lines number o) (none ∙ is) ∙ set-get_or lines number None))
+      (subst (λ (f : List (BTreeSet ℕ)). AreWires lines fell f count) (sym sets) wires)
+
+  pub kept_acted : {S : Type 0} (m : Meaning S U) (n : ℕ) (shared : S) (flying' : List (BTreeSet ℕ)) (slot x : Option (Dialled U)) → x ≡ get_or lines number None
+      → AreWires lines fell flying count → slot ≡ option_map (on_dialled (with_acted m n shared)) x → LeavesAtRest number slot flying flying'
+      → AreWires (set lines number slot) fell flying' count
+  kept_acted m n shared flying' slot None is wires acted out = none_kept flying' slot is wires (rw acted at out) acted
+  kept_acted m n shared flying' slot (Some x) is wires acted out =
+      rw acted (kept_acted_on flying' n x (on_dialled (with_acted m n shared) x) is wires refl refl refl refl (rw acted at out))
+
+  -- memory ran out
+  pub kept_bytes : (slot x : Option (Dialled U)) → x ≡ get_or lines number None → AreWires lines fell flying count → KeepsBytes x slot
+      → AreWires (set lines number slot) fell flying count
+  kept_bytes slot None is wires keeps = none_kept flying slot is wires refl keeps
+  kept_bytes None (Some x) is wires keeps = absurd keeps
+  kept_bytes (Some x') (Some x) is wires keeps = kept_same x x' is wires
+      (ap (λ (y : Dialled U). y.line.member) keeps) (ap (λ (y : Dialled U). y.since) keeps)
+      (ap (λ (y : Dialled U). y.line.dropped) keeps) (ap (λ (y : Dialled U). y.line.flying) keeps)
+
+  pub kept_read : (n : ℕ) (slot x : Option (Dialled U)) → x ≡ get_or lines number None → AreWires lines fell flying count
+      → slot ≡ option_map (on_dialled (with_read n)) x → AreWires (set lines number slot) fell flying count
+  kept_read n slot None is wires done = none_kept flying slot is wires refl done
+  kept_read n slot (Some x) is wires done = rw done (kept_same x (on_dialled (with_read n) x) is wires refl refl refl refl)
+
   -- its member drops it
-  pub kept_dropped : (flying' : List (BTreeSet ℕ)) (x : Dialled U) → Some x ≡ get_or lines number None → AreWires lines fell flying count
-      → Sorts x.line.member number false flying flying' → AreWires (set lines number (Some (on_dialled with_dropped x))) fell flying' count
-  kept_dropped flying' x is wires sorts = kept_changed flying' x (on_dialled with_dropped x) is refl refl sorts wires
+  pub kept_dropped : (flying' : List (BTreeSet ℕ)) (slot x : Option (Dialled U)) → x ≡ get_or lines number None → AreWires lines fell flying count
+      → SortsOld number x flying flying' → slot ≡ option_map (on_dialled with_dropped) x → AreWires (set lines number slot) fell flying' count
+  kept_dropped flying' slot None is wires sorts done = none_kept flying' slot is wires sorts done
+  kept_dropped flying' slot (Some x) is wires sorts done = rw done (kept_changed flying' x (on_dialled with_dropped x) is refl refl sorts wires)
+
+  -- its member's number is one that there is a set for
+  pub in_sets : (x : Option (Dialled U)) → x ≡ get_or lines number None → AreWires lines fell flying count → OfDialled (IsIn (length flying)) x
+  in_sets None is wires = tt
+  in_sets (Some x) is wires = member_within x is wires
+
+  pub in_acted : {S : Type 0} (m : Meaning S U) (n : ℕ) (shared : S) (slot x : Option (Dialled U)) → x ≡ get_or lines number None
+      → AreWires lines fell flying count → slot ≡ option_map (on_dialled (with_acted m n shared)) x → OfDialled (IsIn (length flying)) slot
+  in_acted m n shared slot None is wires acted = rw acted tt
+  in_acted m n shared slot (Some x) is wires acted = rw acted (member_within x is wires)
 
   -- memory ran out before anything was sent
   pub same_sets : (flying' : List (BTreeSet ℕ)) → AreSame flying flying' → AreWires lines fell flying count → AreWires lines fell flying' count
