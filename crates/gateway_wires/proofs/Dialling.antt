@@ -59,6 +59,17 @@ module _ {U : Type 0} (fell : List ℕ) (down : List Bool) (flying flying' : Lis
         ∙ ap (λ (x : Option (Dialled U)). flies_to member (option_map (seen_line fell) x)) (sym (any_room_same more lines n));
   }
 
+  -- and so does one that is counted though memory ran out
+  pub grown_later : (more : ℕ) → AreWires lines fell flying count → AreWires (lines ++ replicate more None) fell flying (count + 1)
+  grown_later more wires =
+      let room = grown more wires in
+      record {
+        all_members = room.all_members;
+        dialled = all_more (OfDialled (WasDialled count)) (OfDialled (WasDialled (count + 1))) (was_before count) (lines ++ replicate more None) room.dialled;
+        fell_before = λ member. let h = room.fell_before member in omega arith;
+        flies = room.flies;
+      }
+
   pub is_in_room : AreWires lines fell flying count → OfDialled (IsIn (length flying)) (get_or (with_room number lines) number None)
   is_in_room wires = go (get_or (with_room number lines) number None)
       (all_get (OfDialled (WasDialled count)) (with_room number lines) number None

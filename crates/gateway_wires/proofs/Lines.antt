@@ -73,6 +73,13 @@ module _ {U : Type 0} (fell : List ℕ) (down : List Bool) where
         both None = refl
         both (Some x) = ap (λ (y : LineState U). Some y) (alike x)
 
+    -- the same, where memory may have run out
+    pub changed_ok : {A E : Type 0} (result : Result A E) (slot : Option (Dialled U)) → OnOk result (slot ≡ option_map (on_dialled change) (get_or lines number None))
+        → ((x : Dialled U) → seen_line fell (on_dialled change x) ≡ change (seen_line fell x))
+        → OnOk result (wires_in (set lines number slot) fell down ≡ on_line number change w)
+    changed_ok (Ok a) slot done alike = changed slot done alike
+    changed_ok (Err e) slot done alike = tt
+
     -- nothing is done with one that wasn't dialled
     pub unchanged : None ≡ get_or lines number None → wires_in lines fell down ≡ on_line number change w
     unchanged is =

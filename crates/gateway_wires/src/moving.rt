@@ -29,9 +29,10 @@ impl<G: Group> Wires<G> {
         requires up { is_down self.old member ≡ false }
         ensures { OnOk result (self.new ≡ with_line number (dialled G.meaning member list.now) self.old) }
     {
-        let line = Line::dialled(self.alloc, group, member, list, self.dialled.len())?;
+        let since = self.dialled.len();
         make_room(&mut self.lines, number)?;
         self.dialled.push(number)?;
+        let line = Line::dialled(self.alloc, group, member, list, since)?;
         leave_old(&mut self.flying, &self.lines, number);
         self.lines[number as usize] = Some(line);
         Ok(())
