@@ -10,7 +10,9 @@ use Rattle.std.proofs.lemmas.Bool.Decides.{nat_tests}
 use Rattle.std.proofs.lemmas.List.{map-set, map-append, length-map, length-append, length-replicate}
 use Rattle.link_ends.proofs.Lists.{all_set, all_get}
 use Rattle.plain_model.proofs.Puts.{by_equal}
-use Rattle.gateway_wires.specs.Line.{LineState, is_flying_on, is_empty}
+use Rattle.server_list.specs.Lists.{Listing}
+use Rattle.plain_model.specs.Group.{Meaning}
+use Rattle.gateway_wires.specs.Line.{LineState, dialled, is_flying_on, is_empty}
 use Rattle.gateway_wires.specs.Wires.{WiresState, with_room, with_line}
 use Rattle.gateway_wires.specs.Inside.{Dialled, fell_of, has_dropped, seen_line, wires_in, flies_to, is_in, OfDialled, WasDialled, AreWires, Sorts}
 use Rattle.gateway_wires.specs.Inside.{SortsOld, HasGrown, IsIn}
@@ -88,7 +90,7 @@ module _ {U : Type 0} (fell : List ℕ) (down : List Bool) (flying flying' : Lis
     seen_new : seen_line fell x ≡ x.line
     seen_new = ap (λ (b : Bool). record x.line { dropped = b }) (stands ∙ sym standing)
 
-    pub view_dialled : wires_in (set (with_room number lines) number (Some x)) fell down ≡ with_line number x.line (wires_in lines fell down)
+    view_dialled : wires_in (set (with_room number lines) number (Some x)) fell down ≡ with_line number x.line (wires_in lines fell down)
     view_dialled = ap (λ (ls : List (Option (LineState U))). record { lines = ls; down = down })
         (map-set (option_map (seen_line fell)) (with_room number lines) number (Some x)
         ∙ ap (λ (ls : List (Option (LineState U))). set ls number (Some (seen_line fell x))) (map_room (seen_line fell) number lines)
@@ -120,7 +122,7 @@ module _ {U : Type 0} (fell : List ℕ) (down : List Bool) (flying flying' : Lis
     size None sorts = ap length sorts
     size (Some y) sorts = sorts.size
 
-    pub wires_dialled : (old : Option (Dialled U)) → old ≡ get_or (with_room number lines) number None → SortsOld number old flying flying'
+    wires_dialled : (old : Option (Dialled U)) → old ≡ get_or (with_room number lines) number None → SortsOld number old flying flying'
         → AreWires (set (with_room number lines) number (Some x)) fell flying' (count + 1)
     wires_dialled old there sorts = record {
       all_members = size old sorts ∙ wires.all_members;
@@ -137,3 +139,16 @@ module _ {U : Type 0} (fell : List ℕ) (down : List Bool) (flying flying' : Lis
           ∙ ap (λ (o : Option (Dialled U)). flies_to member (option_map (seen_line fell) o))
           (sym (get_or-set_other (with_room number lines) number other (Some x) None ne ∙ room_same number lines other)));
     }
+
+  -- the same of one that was just dialled
+  module _ {S : Type 0} (m : Meaning S U) (member : ℕ) (list : Listing) (x : Dialled U)
+      (made : x ≡ record { line = dialled m member list; since = count }) (within : member < 33) (wires : AreWires lines fell flying count) where
+    pub shows_dialled : (w : WiresState U) → wires_in lines fell down ≡ w
+        → wires_in (set (with_room number lines) number (Some x)) fell down ≡ with_line number (dialled m member list) w
+    shows_dialled w view = rw made (view_dialled (record { line = dialled m member list; since = count }) refl refl refl within wires
+        ∙ ap (λ (v : WiresState U). with_line number (dialled m member list) v) view)
+
+    pub keeps_dialled : (old : Option (Dialled U)) → old ≡ get_or (with_room number lines) number None → SortsOld number old flying flying'
+        → AreWires (set (with_room number lines) number (Some x)) fell flying' (count + 1)
+    keeps_dialled old there sorts =
+        rw made (wires_dialled (record { line = dialled m member list; since = count }) refl refl refl within wires old there sorts)
