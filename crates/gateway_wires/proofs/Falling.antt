@@ -1,6 +1,6 @@
 -- All transports once a member goes down.
 use Rattle.std.proofs.Common.{◌≡◌, ◌≢◌, ◌<◌, ◌≤◌, ℕ, zero, suc, ◌==◌, Bool, true, false, not, ◌&&◌, ◌||◌, if◌then◌else◌, eqb, eqb-true, eq-eqb, List}
-use Rattle.std.proofs.Common.{[], ◌∷◌, set, get_or, map, length}
+use Rattle.std.proofs.Common.{[], ◌∷◌, ◌++◌, set, get_or, map, length, replicate}
 use Rattle.std.proofs.Common.{Option, Some, None, refl, sym, ap, subst, ◌∙◌, get_or-set_same, get_or-set_other, arith}
 use Rattle.std.specs.Prelude.{option_map, nat_lt, nat_le, slice_get}
 use Rattle.server_list.specs.Tried.{is_member}
@@ -14,7 +14,7 @@ use Rattle.std.proofs.lemmas.Bool.Decides.{nat_tests}
 use Rattle.plain_model.proofs.Puts.{by_equal}
 use Rattle.gateway_wires.specs.Line.{LineState, is_flying_on, is_empty, fallen_with}
 use Rattle.gateway_wires.specs.Wires.{with_down}
-use Rattle.gateway_wires.specs.Inside.{Dialled, fell_of, has_dropped, seen_line, wires_in, flies_to, is_in, is_in_set, OfDialled, WasDialled, AreWires}
+use Rattle.gateway_wires.specs.Inside.{Dialled, fell_of, has_dropped, seen_line, wires_in, flies_to, is_in, is_in_set, OfDialled, WasDialled, AreWires, AreNone}
 
 no_flight : (a b : Bool) → a ≡ true → (not a && b) ≡ false
 no_flight true b e = refl
@@ -130,3 +130,25 @@ member_in member is = go (nat_le 1 member) (nat_le member 32) refl refl is
 
 pub empty_of : (none : BTreeSet ℕ) → none.keys ≡ [] → (number : ℕ) → contains nat_cmp none number ≡ false
 empty_of none is number = rw is refl
+
+-- one more set without numbers
+pub none_pushed : (flying : List (BTreeSet ℕ)) (none : BTreeSet ℕ) → AreNone flying → ((number : ℕ) → contains nat_cmp none number ≡ false)
+    → AreNone (flying ++ none ∷ [])
+none_pushed [] none all empty zero number = empty number
+none_pushed [] none all empty (suc member) number = refl
+none_pushed (s ∷ flying) none all empty zero number = all zero number
+none_pushed (s ∷ flying) none all empty (suc member) number = none_pushed flying none (λ another. all (suc another)) empty member number
+
+never_fell : (count member : ℕ) → fell_of (replicate count 0) member ≡ 0
+never_fell zero member = refl
+never_fell (suc count) zero = refl
+never_fell (suc count) (suc member) = never_fell count member
+
+-- no transport was dialled
+pub wires_none : {U : Type 0} (flying : List (BTreeSet ℕ)) → length flying ≡ 33 → AreNone flying → AreWires {U = U} [] (replicate 33 0) flying 0
+wires_none flying size none = record {
+  all_members = size;
+  dialled = tt;
+  fell_before = λ member. let h = never_fell 33 member in omega (arith, h);
+  flies = λ member number in_range. none member number;
+}

@@ -25,7 +25,7 @@ pub struct Wires<G: Group> {
     down: [bool; 33],
     pub(crate) fell: [usize; 33],
     pub(crate) flying: Vec<BTreeSet<u64>>,
-    /// The numbers of all transports that were dialled, oldest first.
+    /// The numbers of all transports that were dialled, or were to be and found no memory, oldest first.
     pub(crate) dialled: Vec<u64>,
 }
 
