@@ -42,7 +42,8 @@ after_push state (first ∷ others) t = after_push (after_turn first.memory firs
 heard_push : (turns : List Fed) (t : Fed) → heard_by (turns ++ t ∷ []) ≡ heard_by turns ++ piece_of t.input
 heard_push [] t = append-nil (piece_of t.input)
 heard_push (first ∷ others) t =
-    ap (λ (bytes : List ℕ). piece_of first.input ++ bytes) (heard_push others t) ∙ sym (append_assoc (piece_of first.input) (heard_by others) (piece_of t.input))
+    ap (λ (bytes : List ℕ). piece_of first.input ++ bytes) (heard_push others t)
+        ∙ sym (append_assoc (piece_of first.input) (heard_by others) (piece_of t.input))
 
 said_push : (state : State) (turns : List Fed) (t : Fed)
     → said_by (turns ++ t ∷ []) state ≡ said_by turns state ++ bytes_said t.input (after_all turns state)

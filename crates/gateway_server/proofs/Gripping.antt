@@ -264,7 +264,8 @@ chain_says (byte ∷ bytes) held h r = (h, r)
 talk_says : (number member : ℕ) (talk : Option Talking) (released : Bool) → released ≡ false
     → SaysOf (need_by_talk talk) (Some (record { number = number; member = member; talk = talk; released = released }))
 talk_says number member None released r = refl
-talk_says number member (Some t) released r = chain_says (to_send t) (Some (record { number = number; member = member; talk = Some t; released = released })) refl r
+talk_says number member (Some t) released r =
+    chain_says (to_send t) (Some (record { number = number; member = member; talk = Some t; released = released })) refl r
 
 held_says : (held : Option Held) → is_released held ≡ false → SaysOf (need_by_held held) held
 held_says None r = refl
@@ -354,7 +355,9 @@ got_kept g held number member t s none h e = by g none
 
 back_talk : (bytes : List ℕ) (number member : ℕ) (talk : Option Talking) (s : Session)
     → Kept (Some (record { number = number; member = member; talk = talk; released = false }))
-    (back_by (got_by_talk bytes talk) (record s { held = Some (record { number = number; member = member; talk = talked_by bytes talk; released = false }) })).held
+    (back_by (got_by_talk bytes talk) (record s {
+      held = Some (record { number = number; member = member; talk = talked_by bytes talk; released = false });
+    })).held
 back_talk bytes number member None s = kept_as _ _ refl
 back_talk bytes number member (Some t) s =
     got_kept (back bytes t).got (with_talking number member false t) number member (back bytes t).talk
@@ -367,7 +370,9 @@ back_held bytes (Some held) s r = back_of bytes held.number held.member held.tal
   where
     back_of : (bytes : List ℕ) (number member : ℕ) (talk : Option Talking) (released : Bool) (s : Session) → released ≡ false
         → Kept (Some (record { number = number; member = member; talk = talk; released = released }))
-        (back_by (got_by_talk bytes talk) (record s { held = Some (record { number = number; member = member; talk = talked_by bytes talk; released = released }) })).held
+        (back_by (got_by_talk bytes talk) (record s {
+          held = Some (record { number = number; member = member; talk = talked_by bytes talk; released = released });
+        })).held
     back_of bytes number member talk true s r = absurd cc
     back_of bytes number member talk false s r = back_talk bytes number member talk s
 
@@ -577,7 +582,8 @@ module _ {L : Type 0} where
 
 -- what is to be given back is at rest
 rests_so : (held : Held) → held.released ≡ true → rests (Some held) ≡ true → is_at_rest (mark_by_talk held.talk) ≡ true
-rests_so held r h = (let e : rests (Some held) ≡ is_at_rest (mark_by_talk held.talk) = ap (λ (b : Bool). not b || is_at_rest (mark_by_talk held.talk)) r in sym e ∙ h)
+rests_so held r h =
+    let e : rests (Some held) ≡ is_at_rest (mark_by_talk held.talk) = ap (λ (b : Bool). not b || is_at_rest (mark_by_talk held.talk)) r in sym e ∙ h
 
 attached_so : (stage : Stage) → is_attached stage ≡ true → stage ≡ Attached
 attached_so New e = absurd cc

@@ -288,7 +288,12 @@ module _ (old now : LinkState) (before bytes : List ℕ) where
       let ends : now.ends ≡ old.ends = ap (λ (l : LinkState). l.ends) h.after in
       let stuck : now.stuck ≡ old.stuck = ap (λ (l : LinkState). l.stuck) h.after in
       record {
-        lasts = record { faults = subst (λ (n : ℕ). one_more old.faults ≤ one_more n) (sym faults) (one_later old.faults); ends = omega arith; stuck = omega arith };
+        lasts =
+            record {
+              faults = subst (λ (n : ℕ). one_more old.faults ≤ one_more n) (sym faults) (one_later old.faults);
+              ends = omega arith;
+              stuck = omega arith;
+            };
         ended = λ is. absurd cc;
         fault = λ is. subst (Rose old.faults) (sym faults) (rose_once old.faults);
       }
@@ -307,7 +312,12 @@ module _ (old now : LinkState) (piece : List ℕ) where
       let stuck : now.stuck ≡ counted (nat_lt 0 (length piece)) old.stuck = ap (λ (l : LinkState). l.stuck) h.after in
       let rises : now.stuck ≡ one_more old.stuck = stuck ∙ ap (λ (b : Bool). counted b old.stuck) (some_room (length piece) some) in
       record {
-        lasts = record { faults = omega arith; ends = omega arith; stuck = subst (λ (n : ℕ). one_more old.stuck ≤ one_more n) (sym rises) (one_later old.stuck) };
+        lasts =
+            record {
+              faults = omega arith;
+              ends = omega arith;
+              stuck = subst (λ (n : ℕ). one_more old.stuck ≤ one_more n) (sym rises) (one_later old.stuck);
+            };
         ended = λ is. inr (subst (Rose old.stuck) (sym rises) (rose_once old.stuck));
         fault = λ is. absurd cc;
       }
@@ -329,7 +339,12 @@ module _ (old now : LinkState) (piece : List ℕ) where
       let ends : now.ends ≡ old.ends = ap (λ (l : LinkState). l.ends) h.after in
       let stuck : now.stuck ≡ old.stuck = ap (λ (l : LinkState). l.stuck) h.after in
       record {
-        lasts = record { faults = subst (λ (n : ℕ). one_more old.faults ≤ one_more n) (sym faults) (one_later old.faults); ends = omega arith; stuck = omega arith };
+        lasts =
+            record {
+              faults = subst (λ (n : ℕ). one_more old.faults ≤ one_more n) (sym faults) (one_later old.faults);
+              ends = omega arith;
+              stuck = omega arith;
+            };
         ended = λ is. absurd cc;
         fault = λ is. subst (Rose old.faults) (sym faults) (rose_once old.faults);
       }

@@ -22,7 +22,8 @@ map_none : {A B : Type 0} (f : A → B) (n : ℕ) → map (option_map f) (replic
 map_none f zero = refl
 map_none f (suc n) = ap (λ (xs : List (Option _)). None ∷ xs) (map_none f n)
 
-map_room : {A B : Type 0} (f : A → B) (number : ℕ) (lines : List (Option A)) → map (option_map f) (with_room number lines) ≡ with_room number (map (option_map f) lines)
+map_room : {A B : Type 0} (f : A → B) (number : ℕ) (lines : List (Option A))
+    → map (option_map f) (with_room number lines) ≡ with_room number (map (option_map f) lines)
 map_room f number lines =
     map-append (option_map f) lines (replicate (suc number - length lines) None)
     ∙ ap (λ (xs : List (Option _)). map (option_map f) lines ++ xs) (map_none f (suc number - length lines))
@@ -97,7 +98,8 @@ module _ {U : Type 0} (fell : List ℕ) (down : List Bool) (flying flying' : Lis
         ∙ ap (λ (y : LineState U). set (with_room number (map (option_map (seen_line fell)) lines)) number (Some y)) seen_new)
 
     rests : (member : ℕ) → flies_to member (Some (seen_line fell x)) ≡ false
-    rests member = ap (λ (bytes : List ℕ). (not (has_dropped fell x) && not (is_empty bytes)) && x.line.member == member) resting ∙ off (not (has_dropped fell x)) (x.line.member == member)
+    rests member = ap (λ (bytes : List ℕ). (not (has_dropped fell x) && not (is_empty bytes)) && x.line.member == member) resting
+        ∙ off (not (has_dropped fell x)) (x.line.member == member)
       where
         off : (a b : Bool) → ((a && false) && b) ≡ false
         off true b = refl
@@ -114,7 +116,8 @@ module _ {U : Type 0} (fell : List ℕ) (down : List Bool) (flying flying' : Lis
         ∙ ap (λ (o : Option (Dialled U)). flies_to member (option_map (seen_line fell) o)) (sym there)
         ∙ and_right (is_flying_on (seen_line fell y)) (y.line.member == member) (ne_eqb y.line.member member (λ e. ne (sym e))))
 
-    others : (old : Option (Dialled U)) → SortsOld number old flying flying' → (member other : ℕ) → other ≢ number → is_in flying' member other ≡ is_in flying member other
+    others : (old : Option (Dialled U)) → SortsOld number old flying flying' → (member other : ℕ) → other ≢ number
+        → is_in flying' member other ≡ is_in flying member other
     others None sorts member other ne = ap (λ (f : List (BTreeSet ℕ)). is_in f member other) sorts
     others (Some y) sorts member other ne = sorts.others member other (and_right (member == y.line.member) (other == number) (ne_eqb other number ne))
 
@@ -132,9 +135,11 @@ module _ {U : Type 0} (fell : List ℕ) (down : List Bool) (flying flying' : Lis
           (record { before = omega (arith, since); member = within });
       fell_before = λ member. let h = wires.fell_before member in omega arith;
       flies = λ member other in_range. by_equal other number
-          (λ e. subst (λ (n : ℕ). is_in flying' member n ≡ flies_to member (option_map (seen_line fell) (get_or (set (with_room number lines) number (Some x)) n None))) (sym e)
+          (λ e. subst (λ (n : ℕ). is_in flying' member n ≡ flies_to member
+              (option_map (seen_line fell) (get_or (set (with_room number lines) number (Some x)) n None))) (sym e)
           (left old sorts (there ∙ room_same number lines number) member in_range ∙ sym (rests member)
-          ∙ ap (λ (o : Option (Dialled U)). flies_to member (option_map (seen_line fell) o)) (sym (get_or-set_same (with_room number lines) number (Some x) None (has_room number lines)))))
+          ∙ ap (λ (o : Option (Dialled U)). flies_to member (option_map (seen_line fell) o))
+              (sym (get_or-set_same (with_room number lines) number (Some x) None (has_room number lines)))))
           (λ ne. others old sorts member other ne ∙ wires.flies member other in_range
           ∙ ap (λ (o : Option (Dialled U)). flies_to member (option_map (seen_line fell) o))
           (sym (get_or-set_other (with_room number lines) number other (Some x) None ne ∙ room_same number lines other)));

@@ -49,7 +49,8 @@ module _ {U : Type 0} (fell : List ℕ) (down : List Bool) where
         kept (Some x) = refl
 
     -- and what its member makes of them
-    pub seen_shared : {S : Type 0} (m : Meaning S U) (count : ℕ) (shared : S) → shared_by m count (line_at x) shared ≡ shared_by m count (line_of w number) shared
+    pub seen_shared : {S : Type 0} (m : Meaning S U) (count : ℕ) (shared : S)
+        → shared_by m count (line_at x) shared ≡ shared_by m count (line_of w number) shared
     seen_shared m count shared = kept x ∙ seen_as lines number w x view is (λ (y : Option (LineState U)). shared_by m count y shared)
       where
         kept : (x : Option (Dialled U)) → shared_by m count (line_at x) shared ≡ shared_by m count (option_map (seen_line fell) x) shared
@@ -74,7 +75,8 @@ module _ {U : Type 0} (fell : List ℕ) (down : List Bool) where
         both (Some x) = ap (λ (y : LineState U). Some y) (alike x)
 
     -- the same, where memory may have run out
-    pub changed_ok : {A E : Type 0} (result : Result A E) (slot : Option (Dialled U)) → OnOk result (slot ≡ option_map (on_dialled change) (get_or lines number None))
+    pub changed_ok : {A E : Type 0} (result : Result A E) (slot : Option (Dialled U))
+        → OnOk result (slot ≡ option_map (on_dialled change) (get_or lines number None))
         → ((x : Dialled U) → seen_line fell (on_dialled change x) ≡ change (seen_line fell x))
         → OnOk result (wires_in (set lines number slot) fell down ≡ on_line number change w)
     changed_ok (Ok a) slot done alike = changed slot done alike

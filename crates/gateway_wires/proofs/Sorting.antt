@@ -39,7 +39,8 @@ module _ {U : Type 0} (fell : List ℕ) (flying : List (BTreeSet ℕ)) (lines : 
       → Sorts x.line.member number (is_flying_on (seen_line fell x')) flying flying' → AreWires lines fell flying count
       → AreWires (set lines number (Some x')) fell flying' count
   kept_changed flying' x x' is member since sorts wires =
-      let was : WasDialled count x = subst (OfDialled (WasDialled count)) (sym is) (all_get (OfDialled (WasDialled count)) lines number None wires.dialled tt) in
+      let was : WasDialled count x =
+      subst (OfDialled (WasDialled count)) (sym is) (all_get (OfDialled (WasDialled count)) lines number None wires.dialled tt) in
       record {
         all_members = sorts.size ∙ wires.all_members;
         dialled = all_set (OfDialled (WasDialled count)) lines number (Some x') wires.dialled
@@ -52,14 +53,16 @@ module _ {U : Type 0} (fell : List ℕ) (flying : List (BTreeSet ℕ)) (lines : 
   pub in_place : (x : Dialled U) → Some x ≡ get_or lines number None → AreWires lines fell flying count
       → is_in flying x.line.member number ≡ is_flying_on (seen_line fell x)
   in_place x is wires =
-      let was : WasDialled count x = subst (OfDialled (WasDialled count)) (sym is) (all_get (OfDialled (WasDialled count)) lines number None wires.dialled tt) in
+      let was : WasDialled count x =
+      subst (OfDialled (WasDialled count)) (sym is) (all_get (OfDialled (WasDialled count)) lines number None wires.dialled tt) in
       wires.flies x.line.member number was.member
       ∙ ap (λ (o : Option (Dialled U)). flies_to x.line.member (option_map (seen_line fell) o)) (sym is)
       ∙ and_same (is_flying_on (seen_line fell x)) x.line.member
 
   pub member_within : (x : Dialled U) → Some x ≡ get_or lines number None → AreWires lines fell flying count → x.line.member < length flying
   member_within x is wires =
-      let was : WasDialled count x = subst (OfDialled (WasDialled count)) (sym is) (all_get (OfDialled (WasDialled count)) lines number None wires.dialled tt) in
+      let was : WasDialled count x =
+      subst (OfDialled (WasDialled count)) (sym is) (all_get (OfDialled (WasDialled count)) lines number None wires.dialled tt) in
       let h = was.member in let k = wires.all_members in omega (arith, h, k)
 
   -- nothing changed among those
@@ -203,7 +206,8 @@ module _ {U : Type 0} (fell : List ℕ) (flying : List (BTreeSet ℕ)) (lines : 
       (sym (ap (λ (o : Option (Dialled U)). set lines number o) (none ∙ is) ∙ set-get_or lines number None))
       (subst (λ (f : List (BTreeSet ℕ)). AreWires lines fell f count) (sym sets) wires)
 
-  pub kept_acted : {S : Type 0} (m : Meaning S U) (n : ℕ) (shared : S) (flying' : List (BTreeSet ℕ)) (slot x : Option (Dialled U)) → x ≡ get_or lines number None
+  pub kept_acted : {S : Type 0} (m : Meaning S U) (n : ℕ) (shared : S) (flying' : List (BTreeSet ℕ)) (slot x : Option (Dialled U))
+      → x ≡ get_or lines number None
       → AreWires lines fell flying count → slot ≡ option_map (on_dialled (with_acted m n shared)) x → LeavesAtRest number slot flying flying'
       → AreWires (set lines number slot) fell flying' count
   kept_acted m n shared flying' slot None is wires acted out = none_kept flying' slot is wires (rw acted at out) acted
