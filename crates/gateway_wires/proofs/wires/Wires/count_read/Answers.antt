@@ -1,8 +1,6 @@
-use Rattle.std.proofs.Common.{◌∙◌, ◌≤◌, length, None, ap, refl, subst, ℕ, arith}
-use Rattle.std.specs.Prelude.{option_map}
+use Rattle.std.proofs.Common.{◌≤◌, length, None, refl, subst, ℕ, arith}
 use Rattle.std.proofs.lemmas.List.{get_or_read}
 use Rattle.gateway_wires.specs.Line.{with_read}
-use Rattle.gateway_wires.specs.Inside.{on_dialled}
 use Rattle.gateway_wires.proofs.Lines.{changed, seen_coming}
 use Rattle.gateway_wires.proofs.Sorting.{kept_read}
 use Rattle.gateway_wires.proofs.wires.Wires.count_read.Goals as goal

@@ -1,4 +1,4 @@
-use Rattle.std.proofs.Common.{◌∙◌, ◌-◌, suc, length, get_or, None, refl, ap, arith}
+use Rattle.std.proofs.Common.{◌∙◌, ◌-◌, suc, length, get_or, None, refl, arith}
 use Rattle.std.proofs.lemmas.List.{length_push, with_items_is}
 use Rattle.gateway_wires.specs.Wires.{with_room}
 use Rattle.gateway_wires.proofs.Dialling.{grown, grown_later, is_in_room, shows_dialled, keeps_dialled}

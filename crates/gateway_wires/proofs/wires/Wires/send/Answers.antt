@@ -1,4 +1,4 @@
-use Rattle.std.proofs.Common.{◌∙◌, ◌≡◌, Some, None, length, set, get_or, get_or-set_same, sym, refl, arith}
+use Rattle.std.proofs.Common.{◌∙◌, None, length, get_or-set_same, sym, refl, arith}
 use Rattle.std.specs.Vec.{with_items}
 use Rattle.std.proofs.lemmas.List.{get_or_read, with_items_is}
 use Rattle.gateway_wires.specs.Line.{with_sent}
