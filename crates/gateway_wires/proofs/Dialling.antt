@@ -1,21 +1,21 @@
 -- All transports once one is dialled.
-use Rattle.std.proofs.Common.{◌≡◌, ◌≢◌, ◌<◌, ◌≤◌, ◌+◌, ◌-◌, ℕ, zero, suc, ◌==◌, Bool, true, false, not, ◌&&◌, ◌||◌, eqb, eqb-true, eq-eqb, List, []}
+use Rattle.std.proofs.Common.{◌≡◌, ◌≢◌, ◌<◌, ◌≤◌, ◌+◌, ◌-◌, ℕ, zero, suc, ◌==◌, Bool, true, false, not, ◌&&◌, ◌||◌, List, []}
 use Rattle.std.proofs.Common.{◌∷◌, ◌++◌, set, get_or, map, length, replicate}
 use Rattle.std.proofs.Common.{Option, Some, None, refl, sym, ap, subst, ◌∙◌, get_or-set_same, get_or-set_other, arith}
 use Rattle.std.specs.Prelude.{option_map, nat_lt}
 use Rattle.std.specs.List.{AllByRecursion}
 use Rattle.std.specs.BTreeSet.{BTreeSet}
-use Rattle.std.proofs.lemmas.Bool.{false≢true, and_left, and_right, ne_eqb}
+use Rattle.std.proofs.lemmas.Bool.{and_left, and_right, ne_eqb}
 use Rattle.std.proofs.lemmas.Bool.Decides.{nat_tests}
-use Rattle.std.proofs.lemmas.List.{map-set, map-append, length-map, length-append, length-replicate}
+use Rattle.std.proofs.lemmas.List.{map-set, map-append, length-map}
 use Rattle.link_ends.proofs.Lists.{all_set, all_get}
 use Rattle.plain_model.proofs.Puts.{by_equal}
 use Rattle.server_list.specs.Lists.{Listing}
 use Rattle.plain_model.specs.Group.{Meaning}
 use Rattle.gateway_wires.specs.Line.{LineState, dialled, is_flying_on, is_empty}
 use Rattle.gateway_wires.specs.Wires.{WiresState, with_room, with_line}
-use Rattle.gateway_wires.specs.Inside.{Dialled, fell_of, has_dropped, seen_line, wires_in, flies_to, is_in, OfDialled, WasDialled, AreWires, Sorts}
-use Rattle.gateway_wires.specs.Inside.{SortsOld, HasGrown, IsIn}
+use Rattle.gateway_wires.specs.Inside.{Dialled, fell_of, has_dropped, seen_line, wires_in, flies_to, is_in, OfDialled, WasDialled, AreWires}
+use Rattle.gateway_wires.specs.Inside.{SortsOld, IsIn}
 use Rattle.gateway_wires.proofs.Reading.{any_room_same, room_same, has_room}
 
 map_none : {A B : Type 0} (f : A → B) (n : ℕ) → map (option_map f) (replicate n None) ≡ replicate n None

@@ -1,14 +1,13 @@
 -- The first transport with bytes on its way.
-use Rattle.std.proofs.Common.{◌≡◌, ◌≢◌, ◌<◌, ◌≤◌, ℕ, zero, suc, ◌==◌, Bool, true, false, not, ◌&&◌, List, [], ◌∷◌, ◌++◌, get_or, length, Option}
+use Rattle.std.proofs.Common.{◌≡◌, ◌<◌, ℕ, zero, suc, ◌==◌, Bool, true, false, ◌&&◌, List, [], ◌∷◌, get_or, length, Option}
 use Rattle.std.proofs.Common.{Some, None}
-use Rattle.std.proofs.Common.{refl, sym, ap, subst, ◌∙◌, arith}
-use Rattle.std.specs.Prelude.{option_map, slice_get, slice_index_or}
-use Rattle.std.specs.BTreeSet.{BTreeSet, contains}
-use Rattle.std.specs.Ordering.{nat_cmp}
+use Rattle.std.proofs.Common.{refl, sym, ap, ◌∙◌, arith}
+use Rattle.std.specs.Prelude.{option_map}
+use Rattle.std.specs.BTreeSet.{BTreeSet}
 use Rattle.std.proofs.lemmas.Bool.{false≢true}
-use Rattle.gateway_wires.specs.Line.{LineState, is_flying, is_flying_on}
-use Rattle.gateway_wires.specs.Wires.{WiresState, line_of, IsFirstFlying}
-use Rattle.gateway_wires.specs.Inside.{Dialled, seen_line, wires_in, flies_to, is_in, is_in_set, AreWires, AreNone, IsLowest}
+use Rattle.gateway_wires.specs.Line.{is_flying, is_flying_on}
+use Rattle.gateway_wires.specs.Wires.{line_of, IsFirstFlying}
+use Rattle.gateway_wires.specs.Inside.{Dialled, seen_line, wires_in, flies_to, is_in, AreWires, IsLowest}
 use Rattle.gateway_wires.proofs.Lines.{seen}
 use Rattle.gateway_wires.proofs.Sorting.{in_place}
 

@@ -1,20 +1,18 @@
 -- What is seen of transports after one of them changes.
-use Rattle.std.proofs.Common.{◌≡◌, ◌≢◌, ◌<◌, ℕ, ◌==◌, Bool, true, false, ◌&&◌, ◌||◌, eqb, eqb-true, eq-eqb, leb, List, [], ◌∷◌, set, get_or, map, length}
-use Rattle.std.proofs.Common.{Result, Ok, Err, Option, Some, None, refl, sym, ap, subst, ◌∙◌, get_or-set_same, get_or-set_other, arith, true≢false}
+use Rattle.std.proofs.Common.{◌≡◌, ◌≢◌, ◌<◌, ℕ, ◌==◌, Bool, true, false, ◌&&◌, eqb, eq-eqb, List, [], ◌∷◌, set, get_or, map, length}
+use Rattle.std.proofs.Common.{Result, Ok, Err, Option, Some, None, refl, sym, ap, subst, ◌∙◌, get_or-set_same, get_or-set_other, arith}
 use Rattle.std.proofs.Common.{zero, suc}
-use Rattle.std.specs.Prelude.{option_map, slice_get, OnOk}
-use Rattle.std.specs.List.{AllByRecursion}
+use Rattle.std.specs.Prelude.{option_map, OnOk}
 use Rattle.std.specs.BTreeSet.{BTreeSet}
 use Rattle.std.proofs.Math.ListN.{get_or-map}
 use Rattle.std.proofs.lemmas.List.{map-set, set-get_or}
 use Rattle.std.proofs.lemmas.Bool.{and_left, and_right, ne_eqb}
 use Rattle.std.proofs.lemmas.Option.{none-some}
-use Rattle.link_ends.proofs.Lists.{all_set}
 use Rattle.plain_model.proofs.Puts.{by_equal}
 use Rattle.plain_model.specs.Group.{Meaning}
 use Rattle.gateway_wires.specs.Line.{LineState, is_flying_on, flying_of, coming_of}
 use Rattle.gateway_wires.specs.Wires.{WiresState, line_of, on_line, shared_by}
-use Rattle.gateway_wires.specs.Inside.{Dialled, line_at, on_dialled, seen_line, wires_in, flies_to, is_in, OfDialled, WasDialled, AreWires, Sorts, AreSame}
+use Rattle.gateway_wires.specs.Inside.{Dialled, line_at, on_dialled, seen_line, wires_in, flies_to, is_in}
 
 module _ {U : Type 0} (fell : List ℕ) (down : List Bool) where
   pub seen : (lines : List (Option (Dialled U))) (number : ℕ)

@@ -1,5 +1,5 @@
 -- What stands at each number after transports and members change.
-use Rattle.std.proofs.Common.{◌≡◌, ◌≢◌, ◌<◌, ◌≤◌, ℕ, suc, ◌-◌, Bool, true, false, List, ◌++◌, set, get_or, map, length, replicate, leb}
+use Rattle.std.proofs.Common.{◌≡◌, ◌<◌, ◌≤◌, ℕ, suc, ◌-◌, Bool, true, false, List, ◌++◌, set, get_or, length, replicate, leb}
 use Rattle.std.proofs.Common.{Option, Some, None, refl, sym, ap, subst, ◌∙◌, get_or-set_same, get_or-set_other, arith}
 use Rattle.std.specs.Prelude.{option_map}
 use Rattle.std.proofs.Math.ListN.{get_or-map}
@@ -8,7 +8,7 @@ use Rattle.std.proofs.lemmas.Bool.Decides.{nat_tests}
 use Rattle.plain_model.specs.Plain.{put}
 use Rattle.plain_model.proofs.Puts.{by_equal, put_same, put_other}
 use Rattle.gateway_wires.specs.Line.{LineState, fallen_with}
-use Rattle.gateway_wires.specs.Wires.{WiresState, line_of, is_down, on_line, with_line, with_room, with_down, with_up}
+use Rattle.gateway_wires.specs.Wires.{WiresState, line_of, is_down, on_line, with_line, with_room, with_down}
 
 -- a number is within a list or past it
 within : {A B : Type 0} (xs : List A) (n : ℕ) → (n < length xs → B) → (length xs ≤ n → B) → B

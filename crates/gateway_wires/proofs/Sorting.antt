@@ -1,16 +1,15 @@
 -- All transports once one of them has changed.
-use Rattle.std.proofs.Common.{◌≡◌, ◌≢◌, ◌<◌, ◌≤◌, ◌+◌, ◌-◌, ℕ, zero, suc, ◌==◌, Bool, true, false, not, ◌&&◌, ◌||◌, eqb, eqb-true, eq-eqb, List, []}
-use Rattle.std.proofs.Common.{◌∷◌, ◌++◌, set, get_or, drop, map, length}
+use Rattle.std.proofs.Common.{◌≡◌, ◌<◌, ℕ, zero, suc, ◌==◌, Bool, true, false, not, ◌&&◌, ◌||◌, eq-eqb, List, []}
+use Rattle.std.proofs.Common.{◌∷◌, ◌++◌, set, get_or, drop, length}
 use Rattle.std.proofs.Common.{Option, Some, None, Result, Ok, Err, refl, sym, ap, subst, ◌∙◌, arith}
 use Rattle.std.specs.Prelude.{option_map, nat_lt, if◌then◌else◌, OnOk, OnErr}
-use Rattle.std.specs.List.{AllByRecursion}
 use Rattle.std.specs.BTreeSet.{BTreeSet}
 use Rattle.std.proofs.lemmas.Bool.{false≢true}
 use Rattle.std.proofs.lemmas.List.{set-get_or}
 use Rattle.std.proofs.Math.Dec.{eqb-suc-zero}
 use Rattle.link_ends.proofs.Lists.{all_set, all_get}
 use Rattle.plain_model.specs.Group.{Meaning}
-use Rattle.gateway_wires.specs.Line.{LineState, with_sent, with_acted, with_read, with_dropped, is_flying_on, is_empty}
+use Rattle.gateway_wires.specs.Line.{with_sent, with_acted, with_read, with_dropped, is_flying_on, is_empty}
 use Rattle.gateway_wires.specs.Inside.{Dialled, on_dialled, fell_of, has_dropped, seen_line, flies_to, is_in, OfDialled, WasDialled, IsIn, AreWires, Sorts}
 use Rattle.gateway_wires.specs.Inside.{KeepsBytes, SortsOld, SortsOut, EntersIf, LeavesAtRest, AreSame}
 use Rattle.gateway_wires.proofs.Lines.{flies_after, Others}

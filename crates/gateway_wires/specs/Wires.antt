@@ -1,9 +1,8 @@
 -- All transports, by their numbers, and the members that are down: this project's own.
-use Rattle.std.specs.Prelude.{◌≡◌, ℕ, suc, ◌<◌, ◌-◌, Bool, true, false, List, [], ◌∷◌, ◌++◌, map, length, replicate, slice_set, slice_index_or}
+use Rattle.std.specs.Prelude.{◌≡◌, ℕ, suc, ◌<◌, ◌-◌, Bool, true, false, List, [], ◌++◌, map, length, replicate, slice_set, slice_index_or}
 use Rattle.std.specs.Prelude.{Option, Some, None, option_map}
-use Rattle.server_list.specs.Lists.{Listing}
 use Rattle.plain_model.specs.Group.{Meaning}
-use Rattle.gateway_wires.specs.Line.{LineState, dialled, with_acted, acting, flying_of, fallen_with, is_flying}
+use Rattle.gateway_wires.specs.Line.{LineState, acting, fallen_with, is_flying}
 
 -- A transport stands at the place of its number, and a member at that of its own. None: it was never dialled.
 pub record WiresState (U : Type 0) : Type 0 where

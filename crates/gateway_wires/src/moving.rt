@@ -107,11 +107,7 @@ fn send_at<G: Group>(slot: &mut Option<Line<G>>, piece: &[u8]) -> Result<(), NoM
 }
 
 /// Its member acts on the next so many bytes.
-fn act_at<G: Group>(
-    slot: &mut Option<Line<G>>,
-    count: usize,
-    group: &mut G,
-) -> Result<(), NoMemory>
+fn act_at<G: Group>(slot: &mut Option<Line<G>>, count: usize, group: &mut G) -> Result<(), NoMemory>
     requires { count ≤ length (flying_of (line_at slot.old)) }
     ensures slot { OnOk result (slot.new ≡ option_map (on_dialled (with_acted G.meaning count group.old)) slot.old) }
     ensures shared { OnOk result (group.new ≡ shared_by G.meaning count (line_at slot.old) group.old) }

@@ -52,6 +52,11 @@ fn number_of(word: &str) -> u32 {
     word.parse::<u32>().unwrap_or(0)
 }
 
+/// A number as one byte, the greatest one where it has more.
+fn byte_of(number: u64) -> u8 {
+    u8::try_from(number).unwrap_or(u8::MAX)
+}
+
 /// A group, and the transports to its members.
 #[derive(Drop)]
 struct Scene {
@@ -139,8 +144,8 @@ impl Scene {
     fn count(&self, word: &str, number: u32) -> u8 {
         let transport = u64::from(number);
         match word {
-            "flying" => self.wires.flying(transport) as u8,
-            "first" => self.wires.first_flying().unwrap_or(0) as u8,
+            "flying" => byte_of(self.wires.flying(transport) as u64),
+            "first" => byte_of(self.wires.first_flying().unwrap_or(0)),
             "is_down" => u8::from(self.wires.is_down(number)),
             "is_dropped" => u8::from(self.wires.is_dropped(transport)),
             _ => u8::from(self.wires.stands(transport)),

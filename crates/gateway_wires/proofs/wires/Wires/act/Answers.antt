@@ -1,4 +1,4 @@
-use Rattle.std.proofs.Common.{◌∙◌, ◌≤◌, ℕ, length, set, get_or, get_or-set_same, None, ap, refl, subst, arith}
+use Rattle.std.proofs.Common.{◌∙◌, ◌≤◌, ℕ, length, get_or-set_same, None, ap, refl, subst, arith}
 use Rattle.std.specs.Prelude.{option_map}
 use Rattle.std.proofs.lemmas.List.{get_or_read, with_items_is}
 use Rattle.gateway_wires.specs.Line.{with_acted}

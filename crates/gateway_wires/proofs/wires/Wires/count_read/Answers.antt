@@ -1,8 +1,6 @@
-use Rattle.std.proofs.Common.{◌∙◌, ◌≤◌, length, None, ap, refl, subst, ℕ, arith}
-use Rattle.std.specs.Prelude.{option_map}
+use Rattle.std.proofs.Common.{◌≤◌, length, None, refl, subst, ℕ, arith}
 use Rattle.std.proofs.lemmas.List.{get_or_read}
 use Rattle.gateway_wires.specs.Line.{with_read}
-use Rattle.gateway_wires.specs.Inside.{on_dialled}
 use Rattle.gateway_wires.proofs.Lines.{changed, seen_coming}
 use Rattle.gateway_wires.proofs.Sorting.{kept_read}
 use Rattle.gateway_wires.proofs.wires.Wires.count_read.Goals as goal
@@ -26,4 +24,4 @@ returns g c =
     let w = c.self.inside in
     let there = get_or_read w.lines.items c.args.number c.index_mut.result.now (omega arith) c.index_mut.ensures.value None in
     changed w.fell w.down (with_read c.args.count) w.lines.items c.args.number c.args.self.now c.self.view_is c.read_at.new.slot
-    (c.read_at.ensures ∙ ap (option_map (on_dialled (with_read c.args.count))) there) (λ x. refl)
+    (rw there at c.read_at.ensures) (λ x. refl)

@@ -1,4 +1,4 @@
-use Rattle.std.proofs.Common.{◌∙◌, ◌-◌, suc, length, get_or, None, refl, ap, arith}
+use Rattle.std.proofs.Common.{◌∙◌, ◌-◌, suc, length, get_or, None, refl, arith}
 use Rattle.std.proofs.lemmas.List.{length_push, with_items_is}
 use Rattle.gateway_wires.specs.Wires.{with_room}
 use Rattle.gateway_wires.proofs.Dialling.{grown, grown_later, is_in_room, shows_dialled, keeps_dialled}
@@ -33,8 +33,12 @@ pub invariant_of-self-2 : goal.invariant_of-self-2
 invariant_of-self-2 g c =
     let w = c.self.inside in
     let out = rw (c.deref_mut.ensures.value, c.deref.ensures.value, c.in_ok-make_room.ensures.ok) at c.leave_old.ensures in
-    rw (with_items_is w.flying c.leave_old.new.flying (omega arith), c.in_ok-make_room.ensures.ok, c.in_ok-push.ensures.items,
-    length_push w.dialled.items c.args.number)
+    rw (
+      with_items_is w.flying c.leave_old.new.flying (omega arith),
+      c.in_ok-make_room.ensures.ok,
+      c.in_ok-push.ensures.items,
+      length_push w.dialled.items c.args.number,
+    )
     (keeps_dialled w.fell w.down w.flying.items c.leave_old.new.flying w.lines.items (length w.dialled.items) c.args.number g.G.Group.meaning
     c.args.member c.args.list.now c.in_ok-line.line (rw (c.len-since.ensures ∙ w.dialled.ok.0) at c.in_ok-line.ensures)
         (member_in c.args.member c.requires.member)

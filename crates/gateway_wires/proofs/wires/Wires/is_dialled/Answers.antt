@@ -1,4 +1,4 @@
-use Rattle.std.proofs.Common.{◌≡◌, ◌∙◌, Option, Some, None, refl, sym, ap}
+use Rattle.std.proofs.Common.{◌≡◌, ◌∙◌, Option, Some, None, refl}
 use Rattle.std.specs.Option.{is_some, option_map, option_copied}
 use Rattle.std.specs.Borrow.{Bor}
 use Rattle.gateway_wires.proofs.Lines.{seen_as}

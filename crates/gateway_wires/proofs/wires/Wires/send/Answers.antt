@@ -1,4 +1,4 @@
-use Rattle.std.proofs.Common.{◌∙◌, ◌≡◌, Some, None, length, set, get_or, get_or-set_same, sym, refl, arith}
+use Rattle.std.proofs.Common.{◌∙◌, None, length, get_or-set_same, sym, refl, arith}
 use Rattle.std.specs.Vec.{with_items}
 use Rattle.std.proofs.lemmas.List.{get_or_read, with_items_is}
 use Rattle.gateway_wires.specs.Line.{with_sent}
@@ -32,8 +32,12 @@ leave_at_rest-requires g c =
     let within = there w.lines.items c.args.number c.in-Some.line.now found in
     let was = get_or_read w.lines.items c.args.number c.index_mut.result.now within c.index_mut.ensures.value None ∙ sym found in
     let into = rw (c.will_fly-flies.ensures, c.member.ensures, c.deref_mut.ensures.value) at c.in_ok-enter_if.ensures.ok in
-    rw (c.deref_mut-2.ensures.value, c.deref-2.ensures.value, with_items_is w.flying c.enter_if.new.flying (omega arith),
-    get_or-set_same w.lines.items c.args.number c.send_at-sent.new.slot None within)
+    rw (
+      c.deref_mut-2.ensures.value,
+      c.deref-2.ensures.value,
+      with_items_is w.flying c.enter_if.new.flying (omega arith),
+      get_or-set_same w.lines.items c.args.number c.send_at-sent.new.slot None within,
+    )
     (in_sent w.fell w.flying.items w.lines.items (length w.dialled.items) c.args.number c.in-Some.line.now found c.self.invariant c.args.piece.now
     c.enter_if.new.flying c.enter_if.new.flying c.send_at-sent.result c.send_at-sent.new.slot (rw was at c.send_at-sent.ensures.ok)
     (rw was at c.send_at-sent.ensures.err) into)
@@ -45,8 +49,12 @@ invariant_of-self-2 g c =
     let within = there w.lines.items c.args.number c.in-Some.line.now found in
     let was = get_or_read w.lines.items c.args.number c.index_mut.result.now within c.index_mut.ensures.value None ∙ sym found in
     let into = rw (c.will_fly-flies.ensures, c.member.ensures, c.deref_mut.ensures.value) at c.in_ok-enter_if.ensures.ok in
-    let out = rw (c.deref_mut-2.ensures.value, c.deref-2.ensures.value, with_items_is w.flying c.enter_if.new.flying (omega arith),
-    get_or-set_same w.lines.items c.args.number c.send_at-sent.new.slot None within) at c.leave_at_rest.ensures in
+    let out = rw (
+      c.deref_mut-2.ensures.value,
+      c.deref-2.ensures.value,
+      with_items_is w.flying c.enter_if.new.flying (omega arith),
+      get_or-set_same w.lines.items c.args.number c.send_at-sent.new.slot None within,
+    ) at c.leave_at_rest.ensures in
     rw (with_items_is (with_items w.flying c.enter_if.new.flying) c.leave_at_rest.new.flying (omega arith))
     (kept_sent w.fell w.flying.items w.lines.items (length w.dialled.items) c.args.number c.in-Some.line.now found c.self.invariant c.args.piece.now
     c.enter_if.new.flying c.leave_at_rest.new.flying c.send_at-sent.result c.send_at-sent.new.slot (rw was at c.send_at-sent.ensures.ok)
