@@ -1,8 +1,8 @@
 -- Each lend that was answered Dial is dialled.
-use Rattle.std.proofs.Common.{◌≡◌, ◌≢◌, ◌<◌, ◌≤◌, ℕ, ◌+◌, Bool, true, false, cond, List, [], ◌∷◌, Option, Some, None, min, refl, sym, ap, ◌∙◌, subst, arith}
+use Rattle.std.proofs.Common.{◌≡◌, ◌≤◌, ℕ, Bool, true, false, cond, List, [], ◌∷◌, Option, Some, None, refl, sym, ap, ◌∙◌, subst, arith}
 use Rattle.unit_segments.specs.declared.command.Command.{Command}
 use Rattle.plain_model.specs.Core as core
-use Rattle.link_ends.specs.Counts.{greatest, one_more}
+use Rattle.link_ends.specs.Counts.{one_more}
 use Rattle.gateway_session.specs.declared.need.End.{End}
 use Rattle.gateway_session.specs.declared.need.Need.{Need}
 use Rattle.gateway_session.specs.declared.need.Need.TheVariants as need

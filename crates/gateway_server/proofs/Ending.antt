@@ -1,21 +1,21 @@
 -- A session from its first turn to its end.
-use Rattle.std.proofs.Common.{◌≡◌, ◌<◌, ◌≤◌, ◌+◌, ◌⊎◌, inl, inr, ℕ, suc, Bool, true, false, List, [], ◌∷◌, ◌++◌, length, nat_eq, Option, Some, None}
-use Rattle.std.proofs.Common.{option_map, refl, sym, ap, subst, ◌∙◌, arith}
+use Rattle.std.proofs.Common.{◌≡◌, ◌⊎◌, inl, inr, ℕ, suc, Bool, true, false, List, [], ◌∷◌, ◌++◌, length, nat_eq, Option, Some, None}
+use Rattle.std.proofs.Common.{refl, sym, ap, subst, ◌∙◌, arith}
 use Rattle.std.proofs.lemmas.Bool.Decides.{nat_tests}
 use Rattle.std.proofs.lemmas.List.{append-nil}
-use Rattle.link_ends.specs.Counts.{greatest, Rose}
+use Rattle.link_ends.specs.Counts.{Rose}
 use Rattle.link_ends.specs.Link.{LinkState, is_none_told}
 use Rattle.gateway_session.specs.declared.need.End.{End}
 use Rattle.gateway_session.specs.declared.need.End.TheVariants as end
 use Rattle.gateway_session.specs.declared.need.Need.{Need}
 use Rattle.gateway_session.specs.declared.need.Need.TheVariants as need
-use Rattle.gateway_session.specs.Session.{Session, need_ended, new_session, uncounted}
-use Rattle.gateway_session.specs.Memory.{State, Runs, Closes, Closing, need_in}
+use Rattle.gateway_session.specs.Session.{need_ended, new_session, uncounted}
+use Rattle.gateway_session.specs.Memory.{State, Runs, Closes, need_in}
 use Rattle.gateway_server.specs.Dialling.{pending_in, finds_memory, AsksDial, counted, Balanced}
 use Rattle.gateway_server.specs.Lasting.{LeftBy, IsUnused}
 use Rattle.gateway_server.specs.Served.{IsNew, is_memory, Tells, IsFront, EndsAtOnce, EndsBy, Served, DialsAsLent}
 use Rattle.gateway_server.specs.Went.{Fed, Went, after_all, heard_by, said_by, out_by, memory_by, left_in, more}
-use Rattle.gateway_server.proofs.Dialling.{is_dial, not_pending}
+use Rattle.gateway_server.proofs.Dialling.{not_pending}
 use Rattle.gateway_server.proofs.Telling.{all_told, without_reply}
 
 -- ---- what the link tells

@@ -1,5 +1,5 @@
 -- What each input leaves of the transport that a session holds.
-use Rattle.std.proofs.Common.{◌≡◌, ℕ, ◌==◌, ◌&&◌, ◌||◌, Bool, true, false, not, eqb, leb, cond, List, [], ◌∷◌, ◌++◌, drop, nat_eq}
+use Rattle.std.proofs.Common.{◌≡◌, ℕ, ◌==◌, ◌&&◌, ◌||◌, Bool, true, false, not, cond, List, [], ◌∷◌, ◌++◌, drop, nat_eq}
 use Rattle.std.proofs.Common.{Option, Some, None, is_some, refl, ap, sym, ◌∙◌, subst, arith}
 use Rattle.std.proofs.lemmas.Bool.{and_parts}
 use Rattle.std.proofs.lemmas.Bool.Decides.{nat_tests}
@@ -13,11 +13,11 @@ use Rattle.plain_model.specs.Core.{Core, After, Owed, LimitKind, Reply, Numbers}
 use Rattle.plain_model.specs.Core as core
 use Rattle.plain_model.specs.Begun.{Reading, begun}
 use Rattle.plain_model.specs.Answered.{answered}
-use Rattle.plain_model.specs.Lost.{accepted, none_left, closed, left}
+use Rattle.plain_model.specs.Lost.{accepted, none_left, closed}
 use Rattle.session_core.specs.Incoming.{next_of, without_next, with_piece}
 use Rattle.requester_core.specs.declared.got.Got.{Got}
 use Rattle.requester_core.specs.declared.got.Got.TheVariants as got
-use Rattle.requester_core.specs.Talk.{Talking, quiet, sent, back, to_send}
+use Rattle.requester_core.specs.Talk.{Talking, sent, back, to_send}
 use Rattle.requester_core.proofs.Leaving.{back_leaves}
 use Rattle.gateway_session.specs.declared.need.Need.{Need}
 use Rattle.gateway_session.specs.declared.need.Need.TheVariants as need
@@ -35,7 +35,7 @@ use Rattle.gateway_session.specs.Session.{Session, is_released, need_ended, need
 use Rattle.gateway_session.specs.Told.{with_outcome, end_outcome, owed_outcome, none_left_outcome}
 use Rattle.gateway_session.specs.Steps.{with_word, with_list, with_after, with_limit, with_accepted, with_answered, with_whole, with_release, with_none_left}
 use Rattle.gateway_session.specs.Steps.{error_of, none_left_word, accept_word, limit_word}
-use Rattle.gateway_session.specs.Steps.{awaits_chain, going_on, going_by, set_out, set_out_on, lost_by_held, begun_by, begin_next, said_by, untried}
+use Rattle.gateway_session.specs.Steps.{awaits_chain, going_on, going_by, set_out_on, lost_by_held, begun_by, begin_next, said_by, untried}
 use Rattle.gateway_session.specs.Steps.{after_app, after_said, after_lost, after_app_end, after_lend, after_dialled, after_sent, after_back, after_given}
 use Rattle.gateway_session.specs.Steps.{got_by, back_by, got_on, got_by_talk, talked_on, talked_by, is_attached, passes_limit, dialled_by, sent_by_held, sent_by_talk}
 use Rattle.gateway_session.specs.Memory.{State, Runs, Closes, need_in, held_in, mark_in, without_list}

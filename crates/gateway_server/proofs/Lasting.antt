@@ -1,10 +1,10 @@
 -- Where a session's application ends it, the counts of its link tell it.
-use Rattle.std.proofs.Common.{◌≡◌, ◌<◌, ◌≤◌, ◌⊎◌, inl, inr, ℕ, zero, suc, ◌==◌, Bool, true, false, not, ◌||◌, cond, List, [], ◌∷◌, ◌++◌, length, nat_lt, nat_eq, ◌&&◌, Option, Some, None, Result, Ok, Err}
-use Rattle.std.proofs.Common.{min, refl, sym, ap, subst, ◌∙◌, arith}
+use Rattle.std.proofs.Common.{◌≡◌, ◌<◌, ◌≤◌, ◌⊎◌, inl, inr, ℕ, zero, suc, Bool, true, false, not, ◌||◌, cond, List, [], ◌∷◌, ◌++◌, length, nat_lt, nat_eq, ◌&&◌, Option, Some, None, Result, Ok, Err}
+use Rattle.std.proofs.Common.{refl, sym, ap, subst, ◌∙◌, arith}
 use Rattle.std.proofs.lemmas.Bool.{lt-ltb}
 use Rattle.std.proofs.lemmas.Bool.Decides.{nat_tests}
 use Rattle.link_ends.specs.declared.source.Failed.{Failed}
-use Rattle.link_ends.specs.Counts.{greatest, one_more, counted, Rose}
+use Rattle.link_ends.specs.Counts.{one_more, counted, Rose}
 use Rattle.link_ends.specs.Link.{LinkState, IsHeard, IsSaid}
 use Rattle.link_ends.specs.Source.{SourceState}
 use Rattle.link_ends.specs.Doors.{DialState}
@@ -15,15 +15,14 @@ use Rattle.unit_segments.specs.declared.command.Command.{Command}
 use Rattle.plain_model.specs.Core as core
 use Rattle.requester_core.specs.Talk.{Talking, to_send}
 use Rattle.gateway_session.specs.declared.held.Held.{Held}
-use Rattle.plain_model.specs.Lost.{left, end_or, app_end}
+use Rattle.plain_model.specs.Lost.{end_or, app_end}
 use Rattle.gateway_session.specs.declared.need.End.{End}
 use Rattle.gateway_session.specs.declared.need.End.TheVariants as end
 use Rattle.gateway_session.specs.declared.need.Need.{Need}
 use Rattle.gateway_session.specs.declared.need.Need.TheVariants as need
-use Rattle.gateway_session.specs.declared.loss.LossWhy.TheVariants as why
 use Rattle.gateway_session.specs.Session as session
 use Rattle.gateway_session.specs.Session.{Session, need_ended, need_by_end, need_by_saying, need_by_work, need_by_held, need_by_talk, need_by_chain, is_released, end_of, uncounted, new_session}
-use Rattle.gateway_session.specs.Steps.{after_app_end, after_lost}
+use Rattle.gateway_session.specs.Steps.{after_app_end}
 use Rattle.gateway_session.specs.Memory.{State, Runs, Closes, Closing, need_in, to_say_in, to_send_in, front_of, closing_with}
 use Rattle.gateway_session.specs.Inputs.{Input, App, Lend, Dialled, Sent, Back, Given, Said, Lose, AppEnd, after_input, unsaid}
 use Rattle.gateway_server.specs.declared.lease.Lease.{Lease}

@@ -1,5 +1,5 @@
 -- What a call comes to, and what its session is told of it. This project's own.
-use Rattle.std.specs.Prelude.{ℕ, ◌==◌, Bool, true, false, if◌then◌else◌, List, [], ◌++◌, take, Option, option_map, Result, Ok, Err}
+use Rattle.std.specs.Prelude.{ℕ, ◌==◌, true, false, if◌then◌else◌, List, ◌++◌, take, Option, option_map, Result, Ok, Err}
 use Rattle.gateway_session.specs.declared.loss.LossWhy.TheVariants as why
 use Rattle.gateway_session.specs.Inputs.{Input}
 use Rattle.gateway_session.specs.Inputs as input

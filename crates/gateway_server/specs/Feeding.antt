@@ -1,5 +1,5 @@
 -- What an input makes of a session, whether it finds its memory or not. This project's own.
-use Rattle.std.specs.Prelude.{ℕ, Bool, true, false, List}
+use Rattle.std.specs.Prelude.{ℕ, Bool, true, false}
 use Rattle.gateway_session.specs.Memory.{State, Runs, Closes, step, said_in, app_end_in, out_of_memory, to_say_of, rest_after_said, without_list}
 use Rattle.gateway_session.specs.Inputs.{Input, after_input}
 use Rattle.gateway_session.specs.Inputs as input

@@ -1,5 +1,5 @@
 -- A session that goes on over its application's link, by the counts of that link. This project's own.
-use Rattle.std.specs.Prelude.{◌≡◌, ◌≤◌, ◌⊎◌, ℕ, [], Option, Some, None, true}
+use Rattle.std.specs.Prelude.{◌≡◌, ◌≤◌, ◌⊎◌, [], true}
 use Rattle.link_ends.specs.Counts.{one_more, Rose}
 use Rattle.link_ends.specs.Link.{LinkState, is_none_told}
 use Rattle.gateway_session.specs.declared.need.End.TheVariants as end

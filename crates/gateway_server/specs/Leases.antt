@@ -8,8 +8,6 @@ use Rattle.gateway_session.specs.declared.loss.Lent.TheVariants as lent
 use Rattle.gateway_session.specs.Session.{mark_by_talk}
 use Rattle.gateway_session.specs.Steps.{is_attached}
 use Rattle.gateway_session.specs.Memory.{State, Runs, Closes}
-use Rattle.gateway_session.specs.Inputs.{Input}
-use Rattle.gateway_session.specs.Inputs as input
 use Rattle.transport_pool.specs.Counts.{rose}
 use Rattle.transport_pool.specs.declared.lend.Lend.{Lend}
 use Rattle.transport_pool.specs.declared.lend.Lend.TheVariants as lend

@@ -1,5 +1,5 @@
 -- What turns come to one after another: this project's own.
-use Rattle.std.specs.Prelude.{◌≡◌, ℕ, Bool, true, false, List, [], ◌∷◌, ◌++◌, take, Option, option_map}
+use Rattle.std.specs.Prelude.{◌≡◌, false}
 use Rattle.gateway_session.specs.declared.need.Need.{Need}
 use Rattle.gateway_session.specs.declared.need.Need.TheVariants as need
 use Rattle.gateway_server.specs.declared.run.Step.{Step}

@@ -1,4 +1,4 @@
-use Rattle.std.proofs.Common.{◌≡◌, sym, subst}
+use Rattle.std.proofs.Common.{sym, subst}
 use Rattle.transport_pool.specs.Grants.{IsAtRest}
 use Rattle.gateway_server.proofs.Gripping.{give_rests}
 use Rattle.gateway_server.proofs.calls.release.Goals as goal

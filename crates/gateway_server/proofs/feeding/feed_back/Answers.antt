@@ -1,5 +1,5 @@
 use Rattle.gateway_session.specs.Inputs as Input
-use Rattle.gateway_server.specs.Leases.{held_by, grip_lent, grip_in}
+use Rattle.gateway_server.specs.Leases.{held_by}
 use Rattle.gateway_server.proofs.Feeds.{fed_has}
 use Rattle.gateway_server.proofs.Gripping.{Kept, back_feeds, says_in}
 use Rattle.gateway_server.proofs.feeding.feed_back.Goals as goal

@@ -1,7 +1,5 @@
-use Rattle.std.proofs.Common.{sym, subst, true}
 use Rattle.gateway_session.specs.Inputs as Input
-use Rattle.gateway_session.specs.declared.loss.LossWhy.TheVariants as why
-use Rattle.gateway_server.specs.Leases.{held_by, grip_lent, grip_of_held}
+use Rattle.gateway_server.specs.Leases.{held_by}
 use Rattle.gateway_server.proofs.Feeds.{fed_has}
 use Rattle.gateway_server.proofs.Gripping.{IsFree, given_feeds}
 use Rattle.gateway_server.proofs.feeding.feed_given.Goals as goal

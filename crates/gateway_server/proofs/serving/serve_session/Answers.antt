@@ -1,5 +1,4 @@
-use Rattle.std.proofs.Common.{◌≡◌, true, false, refl, sym, ap, subst, ◌∙◌}
-use Rattle.gateway_session.specs.declared.need.Need.{Need}
+use Rattle.std.proofs.Common.{◌≡◌, false, refl, sym, ap, subst}
 use Rattle.gateway_session.specs.declared.need.Need.TheVariants as need
 use Rattle.gateway_session.specs.Memory.{State, need_in}
 use Rattle.gateway_server.specs.declared.run.Step.{Step}

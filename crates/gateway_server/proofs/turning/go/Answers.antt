@@ -1,4 +1,4 @@
-use Rattle.std.proofs.Common.{◌≡◌, ◌∙◌, sym, ap, subst}
+use Rattle.std.proofs.Common.{◌∙◌, ap, subst}
 use Rattle.gateway_session.specs.Memory.{State, held_in, list_in, without_list}
 use Rattle.gateway_server.specs.Turned.{Lost, Learned}
 use Rattle.gateway_server.proofs.Dialling.{asks_after}
