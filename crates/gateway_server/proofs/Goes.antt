@@ -43,7 +43,7 @@ heard_push : (turns : List Fed) (t : Fed) → heard_by (turns ++ t ∷ []) ≡ h
 heard_push [] t = append-nil (piece_of t.input)
 heard_push (first ∷ others) t =
     ap (λ (bytes : List ℕ). piece_of first.input ++ bytes) (heard_push others t)
-        ∙ sym (append_assoc (piece_of first.input) (heard_by others) (piece_of t.input))
+    ∙ sym (append_assoc (piece_of first.input) (heard_by others) (piece_of t.input))
 
 said_push : (state : State) (turns : List Fed) (t : Fed)
     → said_by (turns ++ t ∷ []) state ≡ said_by turns state ++ bytes_said t.input (after_all turns state)
@@ -66,9 +66,9 @@ module _ {R : Type 0} (Turn : R → Fed → R → Type 0) (session : R → State
     made = FoldsTo-push Turn r w.turns r' t r'' w.made made;
     after = after ∙ (ap (after_turn t.memory t.input) w.after ∙ sym (after_push (session r) w.turns t));
     read = read ∙ (heard_so (heard r') t.input ∙ (ap (λ (told : Option (List ℕ)). more told (piece_of t.input)) w.read
-      ∙ (more_more (heard r) (heard_by w.turns) (piece_of t.input) ∙ ap (more (heard r)) (sym (heard_push w.turns t)))));
+        ∙ (more_more (heard r) (heard_by w.turns) (piece_of t.input) ∙ ap (more (heard r)) (sym (heard_push w.turns t)))));
     said = said ∙ (taken_so (taken r') t.input (session r') ∙ (ap (λ (told : Option (List ℕ)). more told (bytes_said t.input (session r'))) w.said
-      ∙ (more_more (taken r) (said_by w.turns (session r)) (bytes_said t.input (session r'))
-      ∙ ap (λ (bytes : List ℕ). more (taken r) (said_by w.turns (session r) ++ bytes)) (ap (bytes_said t.input) w.after)
-      ∙ ap (more (taken r)) (sym (said_push (session r) w.turns t)))));
+        ∙ (more_more (taken r) (said_by w.turns (session r)) (bytes_said t.input (session r'))
+        ∙ ap (λ (bytes : List ℕ). more (taken r) (said_by w.turns (session r) ++ bytes)) (ap (bytes_said t.input) w.after)
+        ∙ ap (more (taken r)) (sym (said_push (session r) w.turns t)))));
   }

@@ -342,6 +342,7 @@ got_kept g held number member t s none h e = by g none
   where
     now : Kept held s.held
     now = subst (λ (o : Option Held). Kept held o) (sym e) h
+
     by : (g : Got) → ((r : Stripped) → g ≡ got.Whole r → t.unread ≡ 0) → Kept held (got_by g s).held
     by got.More none = now
     by got.Refused none = kept_on held s.held (after_lost why.Refused s).held now (lost_kept why.Refused s)

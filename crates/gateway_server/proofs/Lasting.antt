@@ -97,6 +97,7 @@ held_left (Some held) h = talk_left held.talk h
     chain_left : (bytes : List ℕ) → needs_left (need_by_chain bytes) ≡ true → ⊥
     chain_left [] h = absurd cc
     chain_left (byte ∷ bytes) h = absurd cc
+
     talk_left : (talk : Option Talking) → needs_left (need_by_talk talk) ≡ true → ⊥
     talk_left None h = absurd cc
     talk_left (Some talking) h = chain_left (to_send talking) h
@@ -195,6 +196,7 @@ ended_is (Some y) x s same g = by s.to_say s.gone g ∙ ap (λ (o : core.End). n
   where
     some_is : (y x : core.End) → Some y ≡ Some x → y ≡ x
     some_is y x e = cc
+
     by : (bytes : List ℕ) (gone : Bool) → gone ≡ true → need_ended (end_of s.tries.tried y) bytes gone ≡ need.Done (end_of s.tries.tried y)
     by [] gone g = refl
     by (byte ∷ bytes) true g = refl
@@ -365,6 +367,7 @@ held_says (Some held) h = talk_says held.talk h
     chain_says : (bytes : List ℕ) → need_by_chain bytes ≡ need.Say → ⊥
     chain_says [] h = absurd cc
     chain_says (byte ∷ bytes) h = absurd cc
+
     talk_says : (talk : Option Talking) → need_by_talk talk ≡ need.Say → ⊥
     talk_says None h = absurd cc
     talk_says (Some talking) h = chain_says (to_send talking) h
@@ -578,10 +581,12 @@ left_on old mid now m bytes ev state lasts is going t = record { left = λ h. at
   where
     gone : IsGone state
     gone = gone_from state is
+
     failed : need_in (after_turn m (input_of bytes ev) state) ≡ need.Done end.AppFault → Rose old.faults now.faults
     failed h =
         let e = left_event m bytes ev end.AppFault state gone going h refl in
         rose_after old.faults mid.faults now.faults lasts.faults (t.fault e.event)
+
     at_once : need_in (after_turn m (input_of bytes ev) state) ≡ need.Done end.AppEnded
         → (Rose old.ends now.ends × (left_in (after_turn m (input_of bytes ev) state) ≡ [])) ⊎ Rose old.stuck now.stuck
     at_once h =
@@ -606,14 +611,16 @@ pub new_app : (state : State) → IsNew state → need_in state ≡ need.App
 new_app state new = ap need_in new.is ∙ new_needs new.id new.name
 
 pub left_never : (l : LinkState) (state : State) → need_in state ≡ need.App → LeftBy l l state
-left_never l state h = record { left = λ e. absurd (let other : need.App ≡ need.Done end.AppEnded = sym h ∙ e in cc);
-  fault = λ e. absurd (let other : need.App ≡ need.Done end.AppFault = sym h ∙ e in cc) }
+left_never l state h = record {
+  left = λ e. absurd (let other : need.App ≡ need.Done end.AppEnded = sym h ∙ e in cc);
+  fault = λ e. absurd (let other : need.App ≡ need.Done end.AppFault = sym h ∙ e in cc);
+}
 
 -- ---- that the application has gone stays
 
 gone_runs : (i : Input) (s next : Session) → is_app_end i ≡ false → seen next ≡ seen (after_input i s) → IsGone (Runs s) → IsGone (Runs next)
 gone_runs i s next other same gone = λ h.
-  ap (λ (x : Seen). x.gone) same ∙ (input_goes i s other).gone ∙ gone (keeps_there i s next other same h)
+    ap (λ (x : Seen). x.gone) same ∙ (input_goes i s other).gone ∙ gone (keeps_there i s next other same h)
 
 gone_app : (i : Input) (s next : Session) → is_app_end i ≡ true → seen next ≡ seen (after_input i s) → IsGone (Runs next)
 gone_app (App piece) s next ends same = absurd cc

@@ -124,7 +124,7 @@ answered_by_left name number (Some why) k = λ e. absurd cc
 answered_left : (name : List ℕ) (r : Stripped) (k : Core) → is_left (answered name r k).core.end ≡ true → is_left k.end ≡ true
 unfolding answered
 answered_left name r k = λ e.
-  same_end (answered_core r k) k (after_unit r k).end (answered_by_left name (number_in (first k.segments)) (register_fault r k) (answered_core r k) e)
+    same_end (answered_core r k) k (after_unit r k).end (answered_by_left name (number_in (first k.segments)) (register_fault r k) (answered_core r k) e)
 
 -- ---- going on
 

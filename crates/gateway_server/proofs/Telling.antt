@@ -166,7 +166,7 @@ one_reply true i others s then_none found =
     ∙ then_none step.next (ap (λ (state : State). finds_memory (after_all others state)) (sym step.is) ∙ found)
 one_reply false i others s then_none found =
     absurd (let none : finds_memory (after_all others (after_turn false i (Runs s))) ≡ false =
-      ap (λ (state : State). finds_memory (after_all others state)) (stops i s) ∙ closing_stays others (closing_with (unsaid i s) s) in
+    ap (λ (state : State). finds_memory (after_all others state)) (stops i s) ∙ closing_stays others (closing_with (unsaid i s) s) in
     let apart : true ≡ false = sym found ∙ none in cc)
 
 pub without_reply : (turns : List Fed) (s : Session) → finds_memory (after_all turns (Runs s)) ≡ true → memory_by turns (Runs s) ≡ []

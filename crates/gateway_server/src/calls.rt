@@ -166,7 +166,12 @@ pub(crate) fn send<K: Link>(session: &mut Session, grant: Grant, link: K) -> Cal
 }
 
 /// Reads of the link that is held.
-pub(crate) fn receive<K: Link>(session: &mut Session, grant: Grant, link: K, bytes: &mut [u8]) -> Called<K>
+pub(crate) fn receive<K: Link>(
+    session: &mut Session,
+    grant: Grant,
+    link: K,
+    bytes: &mut [u8],
+) -> Called<K>
     requires need { need_in session.old ≡ Back }
     requires rests { rests_in session.old ≡ true }
     requires grip { grip_in session.old ≡ Dialled grant.number }
@@ -192,7 +197,12 @@ pub(crate) fn receive<K: Link>(session: &mut Session, grant: Grant, link: K, byt
 }
 
 /// Gives the transport back that is held.
-pub(crate) fn release<D: Lender>(session: &mut Session, lender: &mut D, grant: Grant, link: D::L) -> Called<D::L>
+pub(crate) fn release<D: Lender>(
+    session: &mut Session,
+    lender: &mut D,
+    grant: Grant,
+    link: D::L,
+) -> Called<D::L>
     requires need { need_in session.old ≡ Give }
     requires rests { rests_in session.old ≡ true }
     ensures call { D.gives lender.old (record { grant = grant; link = link; mark = mark_in session.old }) lender.new }

@@ -68,7 +68,11 @@ fn places(alloc: Global, count: u32) -> Result<Marks, NoMemory> {
 fn app(alloc: Global, paced: bool, fails: &[u32]) -> Result<MemLink, NoMemory>
     ensures { IfOk result (λ link. IsFresh (wire_state link)) }
 {
-    let cuts = if paced { places(alloc, 400)? } else { Marks::of(alloc, &[])? };
+    let cuts = if paced {
+        places(alloc, 400)?
+    } else {
+        Marks::of(alloc, &[])?
+    };
     let fails = Marks::of(alloc, fails)?;
     let link = MemLink::paced(alloc, bytes_of(alloc, SENT)?, 1_048_576, cuts, fails)?;
     Ok(link)

@@ -136,10 +136,10 @@ module _ {U : Type 0} (fell : List ℕ) (down : List Bool) (flying flying' : Lis
       fell_before = λ member. let h = wires.fell_before member in omega arith;
       flies = λ member other in_range. by_equal other number
           (λ e. subst (λ (n : ℕ). is_in flying' member n ≡ flies_to member
-              (option_map (seen_line fell) (get_or (set (with_room number lines) number (Some x)) n None))) (sym e)
+          (option_map (seen_line fell) (get_or (set (with_room number lines) number (Some x)) n None))) (sym e)
           (left old sorts (there ∙ room_same number lines number) member in_range ∙ sym (rests member)
           ∙ ap (λ (o : Option (Dialled U)). flies_to member (option_map (seen_line fell) o))
-              (sym (get_or-set_same (with_room number lines) number (Some x) None (has_room number lines)))))
+          (sym (get_or-set_same (with_room number lines) number (Some x) None (has_room number lines)))))
           (λ ne. others old sorts member other ne ∙ wires.flies member other in_range
           ∙ ap (λ (o : Option (Dialled U)). flies_to member (option_map (seen_line fell) o))
           (sym (get_or-set_other (with_room number lines) number other (Some x) None ne ∙ room_same number lines other)));

@@ -66,7 +66,7 @@ module _ {U : Type 0} (fell : List ℕ) (member count : ℕ) (within : member < 
 
   pub flies_after_down : (x : Option (Dialled U)) → OfDialled (WasDialled count) x → (another : ℕ)
       → flies_to another (option_map (seen_line (set fell member count)) x) ≡
-          (if another == member then false else flies_to another (option_map (seen_line fell) x))
+      (if another == member then false else flies_to another (option_map (seen_line fell) x))
   flies_after_down None was another = if_off (another == member)
   flies_after_down (Some x) was another = flies_of x was another
 

@@ -7,7 +7,7 @@ use Rattle.gateway_server.proofs.feeding.feed_app.Goals as goal
 kept : (c : goal.After-is_ok) → Kept (held_by c.args.session.now) (held_by c.on_app.new.self)
 kept c =
     fed_has (λ state. Kept (held_by c.args.session.now) (held_by state)) c.on_app.result (Input.App c.args.piece.now) c.args.session.now c.on_app.new.self
-        c.on_app.ensures.ok
+    c.on_app.ensures.ok
     c.on_app.ensures.memory (λ memory. app_feeds memory c.args.piece.now c.args.session.now)
 
 pub returns-clause-grip : goal.returns-clause-grip

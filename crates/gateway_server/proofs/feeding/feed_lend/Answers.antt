@@ -22,4 +22,4 @@ returns-clause-lent c =
     fed_has (λ state. AfterLend c.args.lent state) c.on_lend.result (Input.Lend c.args.lent) c.args.session.now c.on_lend.new.self c.on_lend.ensures.ok
     c.on_lend.ensures.memory
     (λ memory. lend_asks memory c.args.lent c.args.session.now c.requires.need
-      (lend_feeds memory c.args.lent c.args.session.now (says_in c.args.session.now _ c.requires.need)).grip)
+    (lend_feeds memory c.args.lent c.args.session.now (says_in c.args.session.now _ c.requires.need)).grip)

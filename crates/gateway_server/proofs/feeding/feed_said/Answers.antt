@@ -21,7 +21,7 @@ memory c = wanting c.on_said.result c.args.n c.args.session.now c.on_said.new.se
 kept : (c : goal.After-is_ok) → Kept (held_by c.args.session.now) (held_by c.on_said.new.self)
 kept c =
     fed_has (λ state. Kept (held_by c.args.session.now) (held_by state)) c.on_said.result (Input.Said c.args.n) c.args.session.now c.on_said.new.self
-        c.on_said.ensures.ok
+    c.on_said.ensures.ok
     (memory c) (λ memory. said_feeds memory c.args.n c.args.session.now)
 
 pub returns-clause-grip : goal.returns-clause-grip

@@ -30,6 +30,6 @@ returns-in-Dial-clause-call g c =
 pub returns-in-Say-clause-balance : goal.returns-in-Say-clause-balance
 returns-in-Say-clause-balance g c =
     (quiet_turn (counted (g.N.Dial.state c.args.dial.now).calls (g.D.Lender.dials c.args.lender.now)) c.say-event.result.1
-      (input_of c.args.bytes.now c.say-event.result.0) c.args.session.now c.say-event.new.session need.Say
-      (c.say-event.ensures.session c.args.bytes.now) c.requires.asks (sym c.need.ensures ∙ c.in-Say.is) refl
-      (λ none. follows_none (grip_in c.say-event.new.session) (grip_in c.args.session.now) c.say-event.ensures.grip none)).0
+    (input_of c.args.bytes.now c.say-event.result.0) c.args.session.now c.say-event.new.session need.Say
+    (c.say-event.ensures.session c.args.bytes.now) c.requires.asks (sym c.need.ensures ∙ c.in-Say.is) refl
+    (λ none. follows_none (grip_in c.say-event.new.session) (grip_in c.args.session.now) c.say-event.ensures.grip none)).0

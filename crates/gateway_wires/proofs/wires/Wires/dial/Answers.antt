@@ -41,7 +41,7 @@ invariant_of-self-2 g c =
     )
     (keeps_dialled w.fell w.down w.flying.items c.leave_old.new.flying w.lines.items (length w.dialled.items) c.args.number g.G.Group.meaning
     c.args.member c.args.list.now c.in_ok-line.line (rw (c.len-since.ensures ∙ w.dialled.ok.0) at c.in_ok-line.ensures)
-        (member_in c.args.member c.requires.member)
+    (member_in c.args.member c.requires.member)
     c.self.invariant (get_or (with_room c.args.number w.lines.items) c.args.number None) refl out)
 
 pub returns : goal.returns
@@ -50,5 +50,5 @@ returns g c =
     rw c.in_ok-make_room.ensures.ok
     (shows_dialled w.fell w.down w.flying.items w.flying.items w.lines.items (length w.dialled.items) c.args.number g.G.Group.meaning
     c.args.member c.args.list.now c.in_ok-line.line (rw (c.len-since.ensures ∙ w.dialled.ok.0) at c.in_ok-line.ensures)
-        (member_in c.args.member c.requires.member)
+    (member_in c.args.member c.requires.member)
     c.self.invariant c.args.self.now c.self.view_is)

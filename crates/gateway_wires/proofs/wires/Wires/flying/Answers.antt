@@ -8,7 +8,7 @@ returns-in-Some g c =
     let w = c.self.inside in
     let there = rw (c.in-Some.is, c.deref.ensures.value) at c.line_at.ensures in
     c.flying.ensures ∙ seen_as w.fell w.down w.lines.items c.args.number c.args.self.now (Some c.in-Some.line.now) c.self.view_is there
-        (λ x. length (flying_of x))
+    (λ x. length (flying_of x))
 
 pub returns-in-None : goal.returns-in-None
 returns-in-None g c =

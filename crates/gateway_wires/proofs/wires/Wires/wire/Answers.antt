@@ -9,7 +9,7 @@ returns-in-Some g c =
     let w = c.self.inside in
     let there = rw (c.in-Some.is, c.deref.ensures.value) at c.line_at.ensures in
     ap (λ w. Some w) c.wire.ensures ∙ seen_as w.fell w.down w.lines.items c.args.number c.args.self.now (Some c.in-Some.line.now) c.self.view_is there
-        (option_map wire)
+    (option_map wire)
 
 pub returns-in-None : goal.returns-in-None
 returns-in-None g c =
