@@ -1,6 +1,7 @@
 //! All workers, each over ends of its own, over one pool.
-ghost use Rattle.std.specs.Prelude.{◌≡◌, ◌<◌, ◌×◌, ℕ, true, false, map, vec_len, slice_index_or, IfOk, OnOk};
-ghost use Rattle.gateway_workers.specs.Workers.{ends_in, Works, AreSessions, AreDials, DoorFailed, NoDoorFailed, AllBack};
+ghost use Rattle.std.specs.Prelude.{◌≡◌, ◌<◌, ◌×◌, ℕ, map, vec_len, slice_index_or, IfOk, OnOk};
+ghost use Rattle.gateway_workers.specs.Back.{IsServed};
+ghost use Rattle.gateway_workers.specs.Workers.{ends_in, seen, Works, WereServed};
 
 use crate::gate::Gate;
 use crate::jobs::{Job, Worked, WorkerEnds};
@@ -77,7 +78,7 @@ fn run_jobs<
 ) -> Result<Vec<Worked<D, N, X, Y>>, NoMemory>
     ensures len { IfOk result (λ all. vec_len all ≡ vec_len jobs) }
     ensures each { IfOk result (λ all. (i : ℕ) (job : _) (worked : _) → i < vec_len jobs →
-        Works A.state D.state (λ dial. (N.state dial).calls) (slice_index_or jobs.items i job) (slice_index_or all.items i worked)) }
+        Works D.state (λ dial. (N.state dial).calls) (IsServed A.state) (slice_index_or jobs.items i job) (slice_index_or all.items i worked)) }
 {
     let worked = thread::map_vec(rt, jobs, &|job| work(rt, place, gate, job))?;
     Ok(worked)
@@ -105,12 +106,8 @@ fn serve_all<
     requires house { (house.decided.calls ≡ 0) × (house.decided.dials ≡ 0) }
     requires calls { (blanks.0.name ≡ X.name) × (blanks.0.parts ≡ X.parts) × (blanks.0.parts ≡ vec_len ends) }
     requires dials { (blanks.1.name ≡ Y.name) × (blanks.1.parts ≡ Y.parts) × (blanks.1.parts ≡ vec_len ends) }
-    ensures len { IfOk result (λ s. vec_len s.ends ≡ vec_len ends) }
-    ensures sessions { IfOk result (λ s. AreSessions A.state D.state (λ dial. (N.state dial).calls) s.sessions ends.items s.ends.items) }
-    ensures dials { IfOk result (λ s. AreDials A.state D.state (λ dial. (N.state dial).calls) s.dials s.refused ends.items s.ends.items) }
-    ensures failed { IfOk result (λ s. s.door_failed ≡ true → DoorFailed A.state D.state (λ dial. (N.state dial).calls) ends.items s.ends.items) }
-    ensures unfailed { IfOk result (λ s. s.door_failed ≡ false → NoDoorFailed A.state D.state (λ dial. (N.state dial).calls) ends.items s.ends.items) }
-    ensures back { IfOk result (λ s. s.refused ≡ false → AllBack A.state D.state (λ dial. (N.state dial).calls) ends.items s.ends.items) }
+    ensures { IfOk result (λ s. WereServed (IsServed A.state) (map (seen D.state (λ dial. (N.state dial).calls)) ends.items)
+        (map (seen D.state (λ dial. (N.state dial).calls)) s.ends.items) s.sessions s.dials s.door_failed s.refused) }
 {
     let (calls_book, mut calls) = blanks.0.open::<X>();
     let (dials_book, mut dials) = blanks.1.open::<Y>();
@@ -148,12 +145,8 @@ pub fn serve_links<
     gate: &G,
 ) -> Result<Served<D, N>, NoMemory>
     requires { (house.decided.calls ≡ 0) × (house.decided.dials ≡ 0) }
-    ensures len { IfOk result (λ s. vec_len s.ends ≡ vec_len ends) }
-    ensures sessions { IfOk result (λ s. AreSessions A.state D.state (λ dial. (N.state dial).calls) s.sessions ends.items s.ends.items) }
-    ensures dials { IfOk result (λ s. AreDials A.state D.state (λ dial. (N.state dial).calls) s.dials s.refused ends.items s.ends.items) }
-    ensures failed { IfOk result (λ s. s.door_failed ≡ true → DoorFailed A.state D.state (λ dial. (N.state dial).calls) ends.items s.ends.items) }
-    ensures unfailed { IfOk result (λ s. s.door_failed ≡ false → NoDoorFailed A.state D.state (λ dial. (N.state dial).calls) ends.items s.ends.items) }
-    ensures back { IfOk result (λ s. s.refused ≡ false → AllBack A.state D.state (λ dial. (N.state dial).calls) ends.items s.ends.items) }
+    ensures { IfOk result (λ s. WereServed (IsServed A.state) (map (seen D.state (λ dial. (N.state dial).calls)) ends.items)
+        (map (seen D.state (λ dial. (N.state dial).calls)) s.ends.items) s.sessions s.dials s.door_failed s.refused) }
 {
     let parts = ends.len() as u64;
     serve_all::<R, A, D, K, N, G, Brand, Brand>(

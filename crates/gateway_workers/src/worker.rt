@@ -138,7 +138,7 @@ pub(crate) fn work<
     X: Ledger,
     Y: Ledger,
 >(rt: &R, place: &Place<N::L, X, Y>, gate: &G, job: Job<D, N, X, Y>) -> Worked<D, N, X, Y>
-    ensures { Works A.state D.state (λ dial. (N.state dial).calls) job result }
+    ensures { Works D.state (λ dial. (N.state dial).calls) (IsServed A.state) job result }
 {
     let mut job = job;
     let mut sessions: u64 = 0;
