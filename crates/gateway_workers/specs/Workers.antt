@@ -48,11 +48,11 @@ module _ {D N X Y : Type 0} where
   abbrev pub ends_after : Worked D N X Y → WorkerEnds D N
   ends_after worked = ends_in worked.job
 
-module _ {B D N : Type 0} (door : D → DoorState B) (calls : N → ℕ) where
+module _ {B D N : Type 0} (door_state : D → DoorState B) (calls_of : N → ℕ) where
   abbrev pub seen : WorkerEnds D N → Seen B
-  seen ends = record { door = door ends.door; calls = calls ends.dial }
+  seen ends = record { door = door_state ends.door; calls = calls_of ends.dial }
 
   -- what a worker made of its door and of its dial
   pub record Works {X Y : Type 0} (P : B → Type 0) (job : Job D N X Y) (worked : Worked D N X Y) : Type 0 where
-    pub door : HasWorked P (door job.door) (door worked.job.door) worked.sessions worked.failed worked.refused
-    pub dial : HasDialled (calls job.dial) job.dials.amount (calls worked.job.dial) worked.job.dials.amount worked.refused
+    pub door : HasWorked P (door_state job.door) (door_state worked.job.door) worked.sessions worked.failed worked.refused
+    pub dial : HasDialled (calls_of job.dial) job.dials.amount (calls_of worked.job.dial) worked.job.dials.amount worked.refused
