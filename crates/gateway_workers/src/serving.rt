@@ -1,5 +1,5 @@
 //! All workers, each over ends of its own, over one pool.
-ghost use Rattle.std.specs.Prelude.{◌≡◌, ◌<◌, ◌×◌, ℕ, map, vec_len, slice_index_or, IfOk, OnOk};
+ghost use Rattle.std.specs.Prelude.{◌≡◌, ◌<◌, ℕ, map, vec_len, slice_index_or, IfOk, OnOk};
 ghost use Rattle.gateway_workers.specs.Back.{IsServed};
 ghost use Rattle.gateway_workers.specs.Workers.{ends_in, seen, Works, WereServed};
 

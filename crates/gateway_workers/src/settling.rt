@@ -1,5 +1,5 @@
 //! What all workers did, put together.
-ghost use Rattle.std.specs.Prelude.{◌≡◌, ◌+◌, ◌×◌, ◌||◌, min, map, vec_len, IfOk};
+ghost use Rattle.std.specs.Prelude.{◌≡◌, ◌+◌, ◌||◌, min, map, vec_len, IfOk};
 ghost use Rattle.std.specs.List.{sum_by, list_any};
 ghost use Rattle.link_ends.specs.Counts.{greatest};
 ghost use Rattle.gateway_workers.specs.Workers.{ends_after};
@@ -27,6 +27,7 @@ pub struct Served<D, N> {
 }
 
 /// What was counted so far. Its shares have the parts of the workers that were counted.
+#[derive(Drop)]
 struct Counted<X: Ledger, Y: Ledger> {
     calls: Share<X>,
     dials: Share<Y>,

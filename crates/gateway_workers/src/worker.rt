@@ -1,5 +1,5 @@
 //! A worker: it takes links of its door, one after another, and serves each by a run of its own.
-ghost use Rattle.std.specs.Prelude.{◌≡◌, ◌×◌, IfSome, Some, false};
+ghost use Rattle.std.specs.Prelude.{◌≡◌, IfSome, Some, false};
 ghost use Rattle.link_ends.specs.Link.{IsFresh};
 ghost use Rattle.gateway_workers.specs.Back.{IsServed, is_refused};
 ghost use Rattle.gateway_workers.specs.Doors.{HandsBack};
