@@ -20,7 +20,7 @@ module _ {B D N X Y : Type 0} (P : B → Type 0) (door : D → DoorState B) (cal
 
   -- nothing was counted before
   abbrev pub AreNew : List (Job D N X Y) → Type 0
-  AreNew jobs = (i : ℕ) (job : Job D N X Y) → i < length jobs → (slice_index_or jobs i job).dials.amount ≡ 0
+  AreNew jobs = All (λ (job : Job D N X Y). job.dials.amount ≡ 0) jobs
 
   pub record Pairs (jobs : List (Job D N X Y)) (worked : List (Worked D N X Y)) : Type 0 where
     pub works : List (Work B)

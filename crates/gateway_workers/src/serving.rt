@@ -1,5 +1,6 @@
 //! All workers, each over ends of its own, over one pool.
 ghost use Rattle.std.specs.Prelude.{◌≡◌, ◌<◌, ℕ, map, vec_len, slice_index_or, IfOk, OnOk};
+ghost use Rattle.std.specs.List.{All};
 ghost use Rattle.gateway_workers.specs.Back.{IsServed};
 ghost use Rattle.gateway_workers.specs.Workers.{ends_in, seen, Works, WereServed};
 
@@ -49,7 +50,7 @@ fn make_jobs<D: Drop, N: Drop, X: Ledger, Y: Ledger>(
     requires dials { (dials.old.parts ≡ vec_len ends) × (dials.old.amount ≡ 0) }
     ensures jobs { IfOk result (λ jobs. map ends_in jobs.items ≡ ends.items) }
     ensures len { IfOk result (λ jobs. vec_len jobs ≡ vec_len ends) }
-    ensures none { IfOk result (λ jobs. (i : ℕ) (job : _) → i < vec_len jobs → (slice_index_or jobs.items i job).dials.amount ≡ 0) }
+    ensures none { IfOk result (λ jobs. All (λ job. job.dials.amount ≡ 0) jobs.items) }
     ensures calls { OnOk result ((calls.new.parts ≡ 0) × (calls.new.amount ≡ 0)) }
     ensures dials { OnOk result ((dials.new.parts ≡ 0) × (dials.new.amount ≡ 0)) }
 {
