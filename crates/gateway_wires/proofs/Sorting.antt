@@ -33,13 +33,15 @@ and_same true n = eq-eqb n n refl
 and_same false n = refl
 
 module _ {U : Type 0} (fell : List ℕ) (flying : List (BTreeSet ℕ)) (lines : List (Option (Dialled U))) (count number : ℕ) where
+  was_dialled : (x : Dialled U) → Some x ≡ get_or lines number None → AreWires lines fell flying count → WasDialled count x
+  was_dialled x is wires = subst (OfDialled (WasDialled count)) (sym is) (all_get (OfDialled (WasDialled count)) lines number None wires.dialled tt)
+
   -- one that was there is another one now, and has bytes on its way or not
   pub kept_changed : (flying' : List (BTreeSet ℕ)) (x x' : Dialled U) → Some x ≡ get_or lines number None → x'.line.member ≡ x.line.member → x'.since ≡ x.since
       → Sorts x.line.member number (is_flying_on (seen_line fell x')) flying flying' → AreWires lines fell flying count
       → AreWires (set lines number (Some x')) fell flying' count
   kept_changed flying' x x' is member since sorts wires =
-      let was : WasDialled count x =
-      subst (OfDialled (WasDialled count)) (sym is) (all_get (OfDialled (WasDialled count)) lines number None wires.dialled tt) in
+      let was = was_dialled x is wires in
       record {
         all_members = sorts.size ∙ wires.all_members;
         dialled = all_set (OfDialled (WasDialled count)) lines number (Some x') wires.dialled
@@ -52,16 +54,14 @@ module _ {U : Type 0} (fell : List ℕ) (flying : List (BTreeSet ℕ)) (lines : 
   pub in_place : (x : Dialled U) → Some x ≡ get_or lines number None → AreWires lines fell flying count
       → is_in flying x.line.member number ≡ is_flying_on (seen_line fell x)
   in_place x is wires =
-      let was : WasDialled count x =
-      subst (OfDialled (WasDialled count)) (sym is) (all_get (OfDialled (WasDialled count)) lines number None wires.dialled tt) in
+      let was = was_dialled x is wires in
       wires.flies x.line.member number was.member
       ∙ ap (λ (o : Option (Dialled U)). flies_to x.line.member (option_map (seen_line fell) o)) (sym is)
       ∙ and_same (is_flying_on (seen_line fell x)) x.line.member
 
   pub member_within : (x : Dialled U) → Some x ≡ get_or lines number None → AreWires lines fell flying count → x.line.member < length flying
   member_within x is wires =
-      let was : WasDialled count x =
-      subst (OfDialled (WasDialled count)) (sym is) (all_get (OfDialled (WasDialled count)) lines number None wires.dialled tt) in
+      let was = was_dialled x is wires in
       let h = was.member in let k = wires.all_members in omega (arith, h, k)
 
   -- nothing changed among those

@@ -240,14 +240,14 @@ fn equals_sign(typdef: TypDef) -> u8
     }
 }
 
-/// The object with this code point and these data.
-fn object(alloc: Global, code: u16, data: &[u8]) -> Result<Octets, NoMemory>
-    requires { length data.now + 8 ≤ greatest_extended }
-    ensures { IfOk result (λ object. object ≡ canonical_object code data.now) }
+/// The object with this code point and this content.
+fn object(alloc: Global, code: u16, content: &[u8]) -> Result<Octets, NoMemory>
+    requires { length content.now + 8 ≤ greatest_extended }
+    ensures { IfOk result (λ object. object ≡ canonical_object code content.now) }
 {
     let mut builder = Builder::new(alloc);
     builder.begin(code)?;
-    builder.put(data)?;
+    builder.put(content)?;
     builder.end()?;
     Ok(builder.finish())
 }
