@@ -1,0 +1,4 @@
+pub mod Working
+pub mod Dialling
+pub mod Putting
+pub mod Sums

@@ -1,0 +1,4 @@
+pub mod Doors
+pub mod Dials
+pub mod Back
+pub mod Workers
