@@ -11,7 +11,7 @@ trap 'rm -rf "$folder"' EXIT
 passed=0
 failed=0
 
-usage='usage: drda_gateway play'
+usage='usage: drda_gateway play [--brief]'
 
 # What the last run left, against the status that is wanted and the bytes of the file `wanted`. Nothing is ever written
 # to standard error.
@@ -44,13 +44,15 @@ check() { # NAME STATUS LINES WORD..
 header=$'rdb SAMPLE\ncap 2\nmember 1 1\nmember 2 1\nuser ALICE SECRET\n'
 counts='count commits 0 dials 0 reuses 0 losses 0'
 
-# Words: those of `play` alone are right.
+# Words: `play`, alone or with its option.
 printf '%s' "$header" >"$folder/script"
 check 'play' 0 "$counts" play
 check 'no word' 1 "$usage"
 check 'an unknown word' 1 "$usage" run
 check 'an unknown option' 1 "$usage" play --fast
+check 'a brief report' 0 "$counts" play --brief
 check 'a word too many' 1 "$usage" play play
+check 'the option twice' 1 "$usage" play --brief --brief
 check 'an empty word' 1 "$usage" ''
 check 'a word that is not UTF-8' 1 "$usage" $'\xFF'
 check 'a second word that is not UTF-8' 1 "$usage" play $'\xC3'
@@ -199,6 +201,25 @@ check 'a word behind the numbers' 1 "$usage" make 7 1 1 1
 status=$?
 compare 'a made script to a full standard output' 4
 
+# A made script that is played, and the examples of `play`: the lines that each is to show, in their order.
+"$program" make 7 1 1 >"$folder/script"
+check 'a made script that is played' 0 $'app 1 sent 194 bytes\napp 1 ended end\ncount commits 1 dials 1 reuses 0 losses 0' play --brief
+shows() { # SCRIPT LINE..
+    local script=$1
+    cp "examples/$script.script" "$folder/script"
+    shift
+    "$program" play <"$folder/script" 2>"$folder/errors" | grep -xF "$(printf '%s\n' "$@")" >"$folder/output"
+    printf '%s\n' "$@" >"$folder/wanted"
+    status=0
+    compare "examples/$script.script" 0
+}
+shows commit 'log lend 1 dial 1 1' 'log run 1 200E' 'log give 1 1' "row 'ALICE' 1 'A'" 'count commits 1 dials 1 reuses 0 losses 0'
+shows pooling 'log lend 2 idle 1' 'log lend 1 idle 1' "row 'S1' 1 'A'" "row 'S1' 2 'C'" "row 'S2' 1 'B'" "row 'S2' 2 'D'"
+shows reroute 'log lost 1 1 fault' 'log lend 1 dial 1 2' 'log lost 1 2 dial' 'log lend 1 dial 2 3' "row 'ALICE' 1 'A'"
+shows lost_commit 'log lost 1 1 cut' 'log error 1 rerouted-unknown' 'log run 1 200E' "row 'ALICE' 1 'A'"
+shows waiting 'log queue 2' 'log queue 3' 'log lend 2 idle 1' 'log lend 3 idle 1' 'count commits 3 dials 1 reuses 2 losses 0'
+shows learned_list 'log lend 1 dial 1 1' 'log learn 1' 'log lend 2 dial 2 2'
+
 # A member: words that aren't right, and an address of no interface here (RFC 5737), at which nothing can listen.
 usage='usage: drda_gateway member --listen ADDR --sessions N --workers N USER...'
 : >"$folder/script"
@@ -206,46 +227,6 @@ check 'a member without users' 1 "$usage" member --listen 127.0.0.1:0 --sessions
 check 'a member that is asked for help' 1 "$usage" member --help
 check 'a member of too many workers' 1 "$usage" member --listen 127.0.0.1:0 --sessions 1 --workers 65 ALICE:SECRET
 check 'an address at which nothing can listen' 3 '' member --listen 192.0.2.1:4460 --sessions 1 --workers 2 ALICE:SECRET
-
-# A gateway: words that aren't right, and the same address.
-usage='usage: drda_gateway serve --listen ADDR --rdb NAME --sessions N --workers N --cap N MEMBER...'
-check 'a gateway without a database' 1 "$usage" serve --listen 127.0.0.1:0 --sessions 1 --workers 1 --cap 1 127.0.0.1:1=1
-check 'a gateway without members' 1 "$usage" serve --listen 127.0.0.1:0 --rdb SAMPLE --sessions 1 --workers 1 --cap 1
-check 'a gateway that is asked for help' 1 "$usage" serve --help
-check 'a gateway that may lend too many' 1 "$usage" serve --listen 127.0.0.1:0 --rdb SAMPLE --sessions 1 --workers 1 --cap 33 127.0.0.1:1=1
-check 'a gateway where nothing can listen' 3 '' serve --listen 192.0.2.1:4460 --rdb SAMPLE --sessions 1 --workers 2 --cap 1 127.0.0.1:1=1
-
-# Help begins with the words that the program itself tells.
-: >"$folder/errors"
-for command in serve member play make trace; do
-    "$program" "$command" '' </dev/null | sed 's/^usage: drda_//' >"$folder/wanted"
-    ./gateway "$command" --help | head -n 1 >"$folder/output"
-    status=$?
-    compare "the help of $command" 0
-    ./gateway --help | grep -qF "  $(cat "$folder/wanted")"
-    status=$?
-    compare "help on $command" 0
-done
-
-# The examples over TCP: what they print, and that they end by themselves. Runs at a time have ports of their own.
-port=$((20000 + $$ % 4000 * 3))
-run_example() { # NAME SECONDS
-    PROGRAM=$program timeout "$2" "examples/$1.sh" "$port" >"$folder/output" 2>"$folder/errors"
-    status=$?
-}
-cat >"$folder/wanted" <<'END'
-key 1: committed, after 194 bytes of replies as they should be
-key 2: committed, after 194 bytes of replies as they should be
-sessions 2
-calls 4
-sessions 1
-commits 2
-END
-run_example serve 60
-compare 'two applications through a gateway' 0
-run_example hostile 120
-sed 's/: .*/: as it should be/' "$folder/output" >"$folder/wanted"
-compare 'applications and members that do what they should not' 0
 
 echo "program: $passed passed, $failed failed"
 [ "$failed" -eq 0 ]

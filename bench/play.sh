@@ -28,6 +28,17 @@ excsats() {
     echo 'settle 1000000'
 }
 
+# A script of so many dials: each transport is cut once it was dialled, and the session asks for another one.
+dials() {
+    printf '%s\nuser ALICE SECRET\nstart 1 ALICE SECRET\ntake 1 65536\nsay 1 65536\ntake 1 65536\n' "$header"
+    awk -v lines="$1" 'BEGIN { for (i = 0; i < lines; i++) print "lend 1\ndial 1\ncut 1\nsay 1 65536\nstart 1 ALICE SECRET\ntake 1 65536\nsay 1 65536\ntake 1 65536" }'
+}
+
+# A made script of 64 applications, each with a hundred units of work.
+events() {
+    "$program" make 7 64 100
+}
+
 # The least time of a command over a file, in microseconds.
 best() {
     local file=$1 least=0 start spent
@@ -44,7 +55,7 @@ best() {
 row() {
     local name=$1 file=$2 bytes played copied
     bytes=$(stat -c %s "$file")
-    played=$(best "$file" "$program" play)
+    played=$(best "$file" "$program" play --brief)
     copied=$(best "$file" cat)
     awk -v n="$name" -v b="$bytes" -v p="$played" -v c="$copied" \
         'BEGIN { printf "%-28s %9d bytes  play %8.1f ms  cat %6.1f ms  ratio %6.1f  %5.2f ns a byte\n", n, b, p / 1000, c / 1000, p / c, p * 1000 / b }'
@@ -56,3 +67,9 @@ for size in 1048576 4194304 16777216; do
 done
 excsats 200000 >"$folder/excsats"
 row "200,000 app lines" "$folder/excsats"
+for lines in 25000 50000 100000; do
+    dials "$lines" >"$folder/dials"
+    row "$lines times a dial" "$folder/dials"
+done
+events >"$folder/events"
+row "64 applications, 100 units" "$folder/events"

@@ -1,9 +1,3 @@
-pub mod ScriptLemmas
-pub mod SplitLemmas
-pub mod Replay
-pub mod Following
-pub mod Headline
-pub mod UserLemmas
 pub mod Playing
 pub mod Tracing
 pub mod Membering

@@ -5,10 +5,7 @@ ghost use Rattle.link_ends.specs.Prepared.{wire_state};
 use crate::make::make;
 use crate::member::member;
 use crate::play::play;
-use crate::report::report;
-use crate::script::Line;
 use crate::trace::trace;
-use crate::world::run_script;
 use hex_lines::read_hex;
 use link_ends::{Marks, MemDoor, MemLink, MemSink, MemSource, NoMemory, Octets};
 use std::alloc::Global;
@@ -72,7 +69,7 @@ fn answers_by_causes(rt: HostRuntime) -> Result<(), Fail> {
     let alloc = rt.alloc();
     let whole = format!(in alloc; "{GREETING}settle 100000\n")?;
     let text = whole.as_str();
-    let usage = "usage: drda_gateway play\n";
+    let usage = "usage: drda_gateway play [--brief]\n";
     let refused = "script refused: line 1 order\n";
     assert!(rt; plays(alloc, "", text, (&[], &[]), 0, GREETED)?);
     assert!(rt; plays(alloc, "--fast", text, (&[], &[]), 1, usage)?);
@@ -116,113 +113,147 @@ fn traces_by_causes(rt: HostRuntime) -> Result<(), Fail> {
     Ok(())
 }
 
-/// Whether an application that sends these bytes comes to these lines, where they are taken together and where they are
-/// taken one by one.
-fn comes_to(alloc: Global, bytes: &str, lines: &str) -> Result<bool, NoMemory> {
-    let report = format!(in alloc; "{lines}count commits 0 dials 0 reuses 0 losses 0\n")?;
-    let mut text = format!(in alloc;
-        "rdb SAMPLE\ncap 1\nmember 1 1\napp 1 {bytes}\nsettle 100000\n"
-    )?;
-    let together = plays(alloc, "", text.as_str(), (&[], &[]), 0, report.as_str())?;
-    text = format!(in alloc; "rdb SAMPLE\ncap 1\nmember 1 1\napp 1 {bytes}\n")?;
-    for _ in 0..bytes.len() / 2 {
-        text.push_str("take 1 1\n")?;
-    }
-    text.push_str("settle 100000\n")?;
-    let singly = plays(alloc, "", text.as_str(), (&[], &[]), 0, report.as_str())?;
-    Ok(together && singly)
+// ---- worked rows
+
+mod rows;
+
+use rows::ROWS;
+
+/// A header with one member, and one with two.
+const ONE: &str = "rdb SAMPLE\ncap 1\nmember 1 1\nuser ALICE SECRET\n";
+
+const TWO: &str = "rdb SAMPLE\ncap 2\nmember 1 1\nmember 2 1\nuser ALICE SECRET\n";
+
+/// A row that is being read: its script, and once this was played its report, and how much of that was found.
+#[derive(Drop)]
+struct Row {
+    script: String,
+    report: Option<Octets>,
+    found: usize,
 }
 
-#[test]
-fn answers_every_spelling(rt: HostRuntime) -> Result<(), Fail> {
-    let alloc = rt.alloc();
-    let greeted =
-        "app 1 sent 0027D003000100211443000A1147C4D9C4C1C7E6000B116DC7C1E3C5E6C1E80008115AC7E6F0F1\napp 1 open\nlog answer 1\n";
-    let too_low =
-        "app 1 sent 0018D0020001001212100006114900080008140424070007\napp 1 open\nlog answer 1\n";
-    let awaits = "app 1 sent -\napp 1 open\n";
-    let rows = [
-        ("000AD001000100041041", greeted),
-        ("000AD021000100041041", greeted),
-        ("8008D0010001000400041041", greeted),
-        ("8006D00100018003000005041041", greeted),
-        ("000AD001000180041041", greeted),
-        ("000ED00100018008104100000000", greeted),
-        ("8008D001000180080008104100000000", greeted),
-        ("0012D0010001000C10410008140424070006", too_low),
-        ("0009D00100010004", awaits),
-        ("8008D00100010004", awaits),
-    ];
-    for (bytes, lines) in rows {
-        assert!(rt; comes_to(alloc, bytes, lines)?, "{bytes}");
+fn new_row(alloc: Global) -> Row {
+    Row {
+        script: String::new(alloc),
+        report: None,
+        found: 0,
     }
-    Ok(())
 }
 
-#[test]
-fn refuses_other_bytes(rt: HostRuntime) -> Result<(), Fail> {
-    let alloc = rt.alloc();
-    let rows = [
-        // no DSS: its length, its third byte, its format, or a further length
-        ("0005D001000100041041", "0000", "01", 0),
-        ("8005", "0000", "01", 0),
-        ("000AD105000100041041", "0000", "03", 2),
-        ("000AD005000100041041", "0000", "04", 3),
-        ("000AD002000100041041", "0000", "04", 3),
-        ("000AD081000100041041", "0000", "04", 3),
-        ("000AD011000100041041", "0000", "04", 3),
-        ("8008D001000700040002", "0007", "05", 8),
-        ("8006D0010107800400040000", "0107", "05", 10),
-        // a DSS that is no lone EXCSAT
-        ("000AD001000100041042", "0000", "04", 0),
-        ("000AD041000100041041", "0000", "04", 0),
-        ("000AD003000100041041", "0000", "04", 0),
-        ("0006D0010001", "0000", "04", 0),
-        ("0009D0010001000410", "0000", "04", 0),
-    ];
-    for (bytes, number, code, place) in rows {
-        let lines = format!(in alloc;
-            "app 1 sent 0015D002{number}000F124C0006114900080005114A{code}\napp 1 ended syntax {place}\nlog error 1 syntax\nlog answer 1\n"
-        )?;
-        assert!(rt; comes_to(alloc, bytes, lines.as_str())?, "{bytes}");
+/// The report of a script; nothing where `play` answers another status than 0.
+fn report_of(alloc: Global, script: &str) -> Result<Octets, NoMemory> {
+    let mut words = Vec::new(alloc);
+    words.push(String::from_str(alloc, "play")?)?;
+    let text = Octets::of(alloc, script.as_bytes())?;
+    let mut source = MemSource::new(text, Marks::of(alloc, &[])?);
+    let mut sink = MemSink::new(alloc, 1_048_576, Marks::of(alloc, &[])?)?;
+    if play(alloc, &words, &mut source, &mut sink) != 0 {
+        return Ok(Octets::new(alloc));
+    }
+    Octets::of(alloc, sink.written())
+}
+
+/// Adds the lines that a line of a row stands for.
+fn add_lines(alloc: Global, script: &mut String, line: &str) -> Result<(), NoMemory> {
+    match line.split_once(' ') {
+        None if line == "ONE" => script.push_str(ONE)?,
+        None if line == "TWO" => script.push_str(TWO)?,
+        Some((word, count)) if word == "REGISTERS" => {
+            for before in 0..count.parse::<u32>().unwrap_or(0) {
+                let number = before + 1;
+                let line = format!(in alloc; "set 1 SET R{number} = 'A'\n")?;
+                script.push_str(line.as_str())?;
+            }
+        }
+        _ => {
+            script.push_str(line)?;
+            script.push_str("\n")?;
+        }
     }
     Ok(())
 }
 
+/// What a byte of a part stands for.
+fn meant(byte: u8) -> u8 {
+    if byte == b'/' { b'\n' } else { byte }
+}
+
+fn begins(text: &[u8], part: &[u8]) -> bool {
+    text.len() >= part.len()
+        && text
+            .iter()
+            .zip(part.iter())
+            .all(|(byte, wanted)| *byte == meant(*wanted))
+}
+
+/// The place behind the first such part that begins at this place or behind it.
+fn find(text: &[u8], from: usize, part: &[u8]) -> Option<usize> {
+    for start in from..text.len() {
+        if begins(&text[start..], part) {
+            return Some(start.saturating_add(part.len()));
+        }
+    }
+    None
+}
+
+/// Whether the report of a row goes on with this part, somewhere behind the parts before it.
+fn has_part(alloc: Global, row: &mut Row, part: &str) -> Result<bool, NoMemory> {
+    if row.report.is_none() {
+        row.report = Some(report_of(alloc, row.script.as_str())?);
+    }
+    let Some(report) = &row.report else {
+        return Ok(false);
+    };
+    match find(report.as_slice(), row.found, part.as_bytes()) {
+        Some(found) => {
+            row.found = found;
+            Ok(true)
+        }
+        None => Ok(false),
+    }
+}
+
+/// The first part that isn't in the report of its row, with the name of the row.
+fn first_missing(alloc: Global) -> Result<Option<(&'static str, &'static str)>, NoMemory> {
+    let mut row = new_row(alloc);
+    let mut name = "";
+    for line in ROWS.lines() {
+        match line.split_once(' ') {
+            Some((mark, rest)) if mark == "=" => {
+                row = new_row(alloc);
+                name = rest;
+            }
+            Some((mark, part)) if mark == "<" => {
+                if !has_part(alloc, &mut row, part)? {
+                    return Ok(Some((name, part)));
+                }
+            }
+            _ => add_lines(alloc, &mut row.script, line)?,
+        }
+    }
+    Ok(None)
+}
+
 #[test]
-fn places_count_from_the_beginning(rt: HostRuntime) -> Result<(), Fail> {
-    let alloc = rt.alloc();
-    let lines =
-        "app 1 sent 0027D003000100211443000A1147C4D9C4C1C7E6000B116DC7C1E3C5E6C1E80008115AC7E6F0F10015D0020000000F124C0006114900080005114A03
-app 1 ended syntax 12
-log answer 1
-log error 1 syntax
-log answer 1
-";
-    let bytes = "000AD001000100041041000AD101000200041041";
-    assert!(rt; comes_to(alloc, bytes, lines)?);
+fn rows_are_played(rt: HostRuntime) -> Result<(), Fail> {
+    let missing = first_missing(rt.alloc())?;
+    assert_eq!(rt; missing, None);
     Ok(())
 }
 
-// A script is too short for this, so the lines are made here: one DSS of full segments, none of which is its last.
 #[test]
-fn a_chain_past_the_limit_ends_its_session(rt: HostRuntime) -> Result<(), Fail> {
+fn a_made_script_is_played(rt: HostRuntime) -> Result<(), Fail> {
     let alloc = rt.alloc();
-    let mut bytes = Octets::of(alloc, &[0xFF, 0xFF, 0xD0, 0x01, 0x00, 0x07])?;
-    bytes.push_all(&[0; 32_761])?;
-    for _ in 0..512 {
-        bytes.push_all(&[0xFF, 0xFF])?;
-        bytes.push_all(&[0; 32_765])?;
-    }
-    let lines = [
-        Line::App { app: 1, bytes },
-        Line::Settle { budget: 100_000 },
-    ];
-    let world = run_script(alloc, &lines)?;
-    let told = report(alloc, &world)?;
-    let limit =
-        "app 1 sent 0010D0020007000A1233000611490008\napp 1 ended limit request\nlog error 1 limit\nlog answer 1\ncount commits 0 dials 0 reuses 0 losses 0\n";
-    assert!(rt; told.as_slice() == limit.as_bytes());
+    let words = words_of(alloc, "make 7 1 1")?;
+    let mut made = MemSink::new(alloc, 1_048_576, Marks::of(alloc, &[])?)?;
+    assert_eq!(rt; make(alloc, &words, &mut made), 0);
+    let words = words_of(alloc, "play --brief")?;
+    let script = Octets::of(alloc, made.written())?;
+    let mut source = MemSource::new(script, Marks::of(alloc, &[])?);
+    let mut sink = MemSink::new(alloc, 1_048_576, Marks::of(alloc, &[])?)?;
+    assert_eq!(rt; play(alloc, &words, &mut source, &mut sink), 0);
+    let wanted = "app 1 sent 194 bytes\napp 1 ended end\ncount commits 1 dials 1 reuses 0 losses 0\n";
+    assert!(rt; sink.written() == wanted.as_bytes());
     Ok(())
 }
 

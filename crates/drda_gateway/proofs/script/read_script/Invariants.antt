@@ -1,9 +1,0 @@
-use Rattle.std.proofs.Common.{length}
-use Rattle.drda_gateway.proofs.ScriptLemmas.{ReadSoFar}
-use Rattle.drda_gateway.proofs.script.read_script.Given as goal
-
-abbrev pub invariant-loop-rest : goal.invariant-loop-rest
-invariant-loop-rest l = ReadSoFar l.number l.draft l.rest l.text
-
-abbrev pub decreases-loop-rest : goal.decreases-loop-rest
-decreases-loop-rest l = length l.rest
