@@ -207,45 +207,5 @@ check 'a member that is asked for help' 1 "$usage" member --help
 check 'a member of too many workers' 1 "$usage" member --listen 127.0.0.1:0 --sessions 1 --workers 65 ALICE:SECRET
 check 'an address at which nothing can listen' 3 '' member --listen 192.0.2.1:4460 --sessions 1 --workers 2 ALICE:SECRET
 
-# A gateway: words that aren't right, and the same address.
-usage='usage: drda_gateway serve --listen ADDR --rdb NAME --sessions N --workers N --cap N MEMBER...'
-check 'a gateway without a database' 1 "$usage" serve --listen 127.0.0.1:0 --sessions 1 --workers 1 --cap 1 127.0.0.1:1=1
-check 'a gateway without members' 1 "$usage" serve --listen 127.0.0.1:0 --rdb SAMPLE --sessions 1 --workers 1 --cap 1
-check 'a gateway that is asked for help' 1 "$usage" serve --help
-check 'a gateway that may lend too many' 1 "$usage" serve --listen 127.0.0.1:0 --rdb SAMPLE --sessions 1 --workers 1 --cap 33 127.0.0.1:1=1
-check 'a gateway where nothing can listen' 3 '' serve --listen 192.0.2.1:4460 --rdb SAMPLE --sessions 1 --workers 2 --cap 1 127.0.0.1:1=1
-
-# Help begins with the words that the program itself tells.
-: >"$folder/errors"
-for command in serve member play make trace; do
-    "$program" "$command" '' </dev/null | sed 's/^usage: drda_//' >"$folder/wanted"
-    ./gateway "$command" --help | head -n 1 >"$folder/output"
-    status=$?
-    compare "the help of $command" 0
-    ./gateway --help | grep -qF "  $(cat "$folder/wanted")"
-    status=$?
-    compare "help on $command" 0
-done
-
-# The examples over TCP: what they print, and that they end by themselves. Runs at a time have ports of their own.
-port=$((20000 + $$ % 4000 * 3))
-run_example() { # NAME SECONDS
-    PROGRAM=$program timeout "$2" "examples/$1.sh" "$port" >"$folder/output" 2>"$folder/errors"
-    status=$?
-}
-cat >"$folder/wanted" <<'END'
-key 1: committed, after 194 bytes of replies as they should be
-key 2: committed, after 194 bytes of replies as they should be
-sessions 2
-calls 4
-sessions 1
-commits 2
-END
-run_example serve 60
-compare 'two applications through a gateway' 0
-run_example hostile 120
-sed 's/: .*/: as it should be/' "$folder/output" >"$folder/wanted"
-compare 'applications and members that do what they should not' 0
-
 echo "program: $passed passed, $failed failed"
 [ "$failed" -eq 0 ]

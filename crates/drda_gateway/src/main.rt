@@ -15,21 +15,18 @@ mod tests;
 mod trace;
 mod world;
 
-use gateway_server::Done;
-use gateway_workers::{NoGate, WorkerEnds};
 use link_ends::{NoMemory, Sink};
 use make::make;
 use member::member;
 use play::play;
 use program_ends::{StdSink, StdSource};
-use serve_command::serve;
-use server_words::{ServeWords, read_member, read_serve};
+use server_words::read_member;
 use std::net::{Net, TcpListener, TcpStream};
 use std::process::ExitCode;
 use std::sync::Wait;
 use std::thread::Threads;
 use std::{env, io};
-use tcp_links::{TcpDial, TcpDoor, TcpLink};
+use tcp_links::{TcpDoor, TcpLink};
 use trace::trace;
 
 /// The status of a program that finds no memory for its words.
@@ -74,43 +71,6 @@ fn run_member<
     Ok(member(rt, rt.alloc(), words, &mut doors, sink))
 }
 
-/// A door and a dial of `serve` over TCP.
-type TcpEnds<'a, R> = WorkerEnds<TcpDoor<'a, Done<TcpLink>>, TcpDial<'a, R>>;
-
-/// A door of the listener and a dial of the members for each worker.
-fn ends_of<'a, R: Net<Stream = TcpStream, Listener = TcpListener> + AllocGlobal>(
-    rt: &'a R,
-    said: &'a ServeWords,
-    listener: Option<&'a TcpListener>,
-) -> Result<Vec<TcpEnds<'a, R>>, NoMemory> {
-    let mut ends = Vec::new(rt.alloc());
-    for _ in 0..said.workers {
-        ends.push(WorkerEnds {
-            door: TcpDoor::new(listener),
-            dial: TcpDial::new(rt, said.addresses.as_slice()),
-        })?;
-    }
-    Ok(ends)
-}
-
-/// Runs `serve` over as many doors of one listener as its words say, each with a dial of its own; over none where they aren't right.
-/// Where there can be no listener, each door fails.
-fn run_serve<
-    R: Net<Stream = TcpStream, Listener = TcpListener> + Threads + Wait + Sync + AllocGlobal,
-    K: Sink,
->(rt: &R, words: &[String], sink: &mut K) -> Result<u8, NoMemory> {
-    let said = read_serve(rt.alloc(), words)?;
-    let listener = match &said {
-        Some(said) => TcpListener::bind(rt, said.listen.as_str()).ok(),
-        None => None,
-    };
-    let mut ends = match &said {
-        Some(said) => ends_of(rt, said, listener.as_ref())?,
-        None => Vec::new(rt.alloc()),
-    };
-    Ok(serve(rt, rt.alloc(), words, &mut ends, sink, &NoGate))
-}
-
 fn main(rt: HostRuntime) -> ExitCode {
     let Ok(words) = words(&rt) else {
         return ExitCode::from(NO_MEMORY);
@@ -122,9 +82,6 @@ fn main(rt: HostRuntime) -> ExitCode {
         Some(word) if word.as_str() == "make" => make(rt.alloc(), &words, &mut sink),
         Some(word) if word.as_str() == "member" => {
             run_member(&rt, &words, &mut sink).unwrap_or(NO_MEMORY)
-        },
-        Some(word) if word.as_str() == "serve" => {
-            run_serve(&rt, &words, &mut sink).unwrap_or(NO_MEMORY)
         },
         _ => play(rt.alloc(), &words, &mut source, &mut sink),
     };

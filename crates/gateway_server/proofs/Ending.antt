@@ -110,8 +110,6 @@ dials_as_lent e calls calls' dials dials' old new b is_new asks done =
     let before : pending_in old ≡ 0 = new_pending old is_new in
     let after : pending_in new ≡ 0 = done_pending new e asks done in
     record {
-      calls_before = b.calls;
-      dials_before = b.dials;
       most = λ x y. (let p = b.most x y in omega (arith, p, before, after));
       all = λ other x y. (let p = b.most x y in let q = b.all (done_found new e done other) x y in omega (arith, p, q, before, after));
     }

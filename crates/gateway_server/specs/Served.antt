@@ -50,9 +50,7 @@ pub record Served {R : Type 0} (Turn : R → Fed → R → Type 0) (session : R 
   pub cause : EndsBy ended (link r) (link r') (said_by turns (session r)) (out_by turns (session r))
 
 -- How often a dial was called, and how many lends were answered Dial, in a session that ended so: as often where it found its memory.
--- Where neither count reaches the greatest value of a u64, which neither falls from.
+-- Where neither count reaches the greatest value of a u64.
 pub record DialsAsLent (ended : End) (calls calls' dials dials' : ℕ) : Type 0 where
-  pub calls_before : calls' < greatest → calls < greatest
-  pub dials_before : dials' < greatest → dials < greatest
   pub most : calls' < greatest → dials' < greatest → calls' + dials ≤ calls + dials'
   pub all : is_memory ended ≡ false → calls' < greatest → dials' < greatest → calls' + dials ≡ calls + dials'

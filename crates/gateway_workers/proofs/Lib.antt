@@ -1,4 +1,0 @@
-pub mod Working
-pub mod Dialling
-pub mod Putting
-pub mod Sums

@@ -1,4 +1,0 @@
-pub mod Doors
-pub mod Dials
-pub mod Back
-pub mod Workers

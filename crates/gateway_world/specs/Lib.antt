@@ -1,0 +1,10 @@
+pub mod State
+pub mod Told
+pub mod Asked
+pub mod Events
+pub mod Can
+pub mod Replay
+pub mod Order
+pub mod Kept
+pub mod Shows
+pub mod Laws

@@ -1,3 +1,0 @@
-mod Rows
-mod Words
-mod Telling
